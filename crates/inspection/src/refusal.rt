@@ -1,0 +1,98 @@
+// Why a call is refused.
+ghost use mathlib.Core.Path.{_≡_};
+ghost use Rattle.inspection.specs.Notices.{notice-of, plain as unplaced, placed as naming};
+
+#[derive(Clone, Copy, PartialEq, Eq, Debug)]
+pub enum Refusal {
+    // The inspector's sheet.
+    SheetLineNotOfForm { line: usize },
+    UnitAboveSample { line: usize },
+    PairFalls { line: usize },
+    // The day clerk's commands.
+    CommandNotOfForm,
+    // The shift lead's calls.
+    NoPeriodOpen,
+    PeriodOpenAlready,
+    LotAwaits,
+    NoLotAwaits,
+    SlipIsOut,
+    LotSizeOutOfRange,
+    // The administrator's calls.
+    ReliefOffNormal,
+    SpellTooShort,
+    TooManyRejected,
+    TooFewUnits,
+    DefectsAboveLimit,
+    NoticeOffReduced,
+    // The book.
+    NoRoom,
+    BookUnsound { entry: usize },
+    EntryUnwritable,
+    // The plan maker's text.
+    PlanLineNotOfForm { line: usize },
+    PlanBoundBroken { line: usize },
+    PlanRowOutOfOrder { line: usize },
+    PlanRowCountsWrong,
+}
+
+// Where the reason stands.
+#[derive(Clone, Copy, PartialEq, Eq, Debug)]
+pub enum Place {
+    SheetLine(usize),
+    BookEntry(usize),
+    PlanLine(usize),
+}
+
+// A refusal as people are told of it: its fixed number, and the place that it names, if any.
+#[derive(Clone, Copy, PartialEq, Eq, Debug)]
+pub struct Notice {
+    pub number: u8,
+    pub place: Option<Place>,
+}
+
+fn plain(number: u8) -> Notice
+    ensures { λ r. ⌜ r ≡ unplaced number ⌝ }
+{
+    Notice { number, place: None }
+}
+
+fn placed(number: u8, place: Place) -> Notice
+    ensures { λ r. ⌜ r ≡ naming number place ⌝ }
+{
+    Notice {
+        number,
+        place: Some(place),
+    }
+}
+
+impl Refusal {
+    pub fn notice(&self) -> Notice
+        ensures { λ r. ⌜ r ≡ notice-of (now (self .entry)) ⌝ }
+    {
+        match *self {
+            Refusal::SheetLineNotOfForm { line } => placed(11, Place::SheetLine(line)),
+            Refusal::UnitAboveSample { line } => placed(12, Place::SheetLine(line)),
+            Refusal::PairFalls { line } => placed(13, Place::SheetLine(line)),
+            Refusal::CommandNotOfForm => plain(15),
+            Refusal::NoPeriodOpen => plain(21),
+            Refusal::PeriodOpenAlready => plain(22),
+            Refusal::LotAwaits => plain(23),
+            Refusal::NoLotAwaits => plain(24),
+            Refusal::SlipIsOut => plain(25),
+            Refusal::LotSizeOutOfRange => plain(26),
+            Refusal::ReliefOffNormal => plain(31),
+            Refusal::SpellTooShort => plain(32),
+            Refusal::TooManyRejected => plain(33),
+            Refusal::TooFewUnits => plain(34),
+            Refusal::DefectsAboveLimit => plain(35),
+            Refusal::NoticeOffReduced => plain(36),
+            Refusal::NoRoom => plain(41),
+            Refusal::BookUnsound { entry } => placed(42, Place::BookEntry(entry)),
+            Refusal::EntryUnwritable => plain(43),
+            Refusal::PlanLineNotOfForm { line } => placed(51, Place::PlanLine(line)),
+            Refusal::PlanBoundBroken { line } => placed(52, Place::PlanLine(line)),
+            Refusal::PlanRowOutOfOrder { line } => placed(53, Place::PlanLine(line)),
+            Refusal::PlanRowCountsWrong => plain(54),
+        }
+    }
+}
