@@ -1,0 +1,5 @@
+pub mod Cuts
+pub mod Numbers
+pub mod Written
+pub mod Tallying
+pub mod Going

@@ -1,0 +1,13 @@
+use mathlib.Core.Path.{_≡_}
+use Rattle.worksheet.specs.Pieces.{to-come}
+use Rattle.worksheet.specs.Scores.{score-of}
+use Rattle.worksheet.proofs.Going.{going, Fits}
+use Rattle.worksheet.proofs.scoring.score.Given as given
+
+-- what is left gives the sheet's score, and the running tally fits the sample
+abbrev pub Inv-loop-item : given.InvT-loop-item
+Inv-loop-item l =
+    given.iterator-loop-item .can (l .item-iterator)
+    × given.iterator-loop-item .ends (l .item-iterator)
+    × Fits (l .units) (l .running)
+    × (going (l .units) (l .running) (to-come (l .item-iterator)) ≡ score-of (l .sheet) (l .units))

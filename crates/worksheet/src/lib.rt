@@ -1,0 +1,4 @@
+// The inspector's worksheet: from the bytes of a sheet to the tally that its sample scores.
+pub mod defect;
+pub mod lines;
+pub mod scoring;
