@@ -3,3 +3,4 @@ pub mod Numbers
 pub mod Written
 pub mod Tallying
 pub mod Going
+pub mod Sheets

@@ -5,7 +5,7 @@ ghost use Rattle.std.specs.Results.{Cases};
 ghost use Rattle.std.specs.declared.option.Option.the-variants.{Some, None};
 ghost use Rattle.inspection.specs.Tallies.{total-of};
 ghost use Rattle.worksheet.specs.Pieces.{shown, defect-of};
-ghost use Rattle.worksheet.specs.Promises.{At-most-nine};
+ghost use Rattle.worksheet.specs.Promises.{At-most-nine, Some-sheet-shows};
 ghost use Rattle.worksheet.specs.Running.{counted as counting, entered, closed};
 ghost use Rattle.worksheet.specs.Scores.{fault, score-of};
 use crate::defect::Defect;
@@ -121,4 +121,10 @@ pub fn score(sheet: &[u8], units: u32) -> Result<Tally, Refusal>
         running = running.enter(check(&item, units, running.last)?);
     }
     Ok(running.close())
+}
+
+// Every tally of at most nine defects a unit is the score of some sheet.
+pub fn some_sheet_shows_every_tally()
+    ensures { λ _. ⌜ Some-sheet-shows ⌝ }
+{
 }
