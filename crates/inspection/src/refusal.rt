@@ -1,6 +1,7 @@
 // Why a call is refused.
 ghost use mathlib.Core.Path.{_≡_};
 ghost use Rattle.inspection.specs.Notices.{notice-of, plain as unplaced, placed as naming};
+use std::fmt;
 
 #[derive(Clone, Copy, PartialEq, Eq, Debug)]
 pub enum Refusal {
@@ -93,6 +94,60 @@ impl Refusal {
             Refusal::PlanBoundBroken { line } => placed(52, Place::PlanLine(line)),
             Refusal::PlanRowOutOfOrder { line } => placed(53, Place::PlanLine(line)),
             Refusal::PlanRowCountsWrong => plain(54),
+        }
+    }
+}
+
+impl Refusal {
+    // What is wrong, in words.
+    fn reason(&self) -> &'static str {
+        match *self {
+            Refusal::SheetLineNotOfForm { .. } => {
+                "it is not unit, tab, cause, tab, class letter and line feed"
+            }
+            Refusal::UnitAboveSample { .. } => "its unit is above the sample",
+            Refusal::PairFalls { .. } => "its unit and cause come before those of the line above",
+            Refusal::CommandNotOfForm => "the command is not of form",
+            Refusal::NoPeriodOpen => "no period is open",
+            Refusal::PeriodOpenAlready => "a period is open already",
+            Refusal::LotAwaits => "a lot awaits its second sample",
+            Refusal::NoLotAwaits => "no lot awaits a second sample, or the slip is another's",
+            Refusal::SlipIsOut => "the slip is out",
+            Refusal::LotSizeOutOfRange => "the lot size is below the plan's first row or above 9999999",
+            Refusal::ReliefOffNormal => "relief is granted on normal inspection only",
+            Refusal::SpellTooShort => "the spell is shorter than the window",
+            Refusal::TooManyRejected => "too many are rejected in the last window",
+            Refusal::TooFewUnits => "the samples have fewer units than the first limit row",
+            Refusal::DefectsAboveLimit => "the defects are above their limit",
+            Refusal::NoticeOffReduced => "irregular production is reported on reduced inspection only",
+            Refusal::NoRoom => "the book has no room",
+            Refusal::BookUnsound { .. } => "no line would have written it",
+            Refusal::EntryUnwritable => "the entry cannot be written",
+            Refusal::PlanLineNotOfForm { .. } => "it is not of form",
+            Refusal::PlanBoundBroken { .. } => "its numbers break a bound",
+            Refusal::PlanRowOutOfOrder { .. } => "its row is out of order",
+            Refusal::PlanRowCountsWrong => "a status or the limits have too few or too many rows",
+        }
+    }
+}
+
+pub impl fmt::Display for Place as PlaceDisplay {
+    fn fmt<W: fmt::Write>(&self, f: &mut fmt::Formatter<W>) -> fmt::Result {
+        match *self {
+            Place::SheetLine(line) => write!(f, "line {line} of the sheet"),
+            Place::BookEntry(entry) => write!(f, "entry {entry} of the book"),
+            Place::PlanLine(line) => write!(f, "line {line} of the plan"),
+        }
+    }
+}
+
+pub impl fmt::Display for Refusal as RefusalDisplay {
+    fn fmt<W: fmt::Write>(&self, f: &mut fmt::Formatter<W>) -> fmt::Result {
+        let Notice { number, place } = self.notice();
+        let reason = self.reason();
+        match place {
+            Some(place) => write!(f, "refused {number}, {place}: {reason}"),
+            None => write!(f, "refused {number}: {reason}"),
         }
     }
 }

@@ -137,3 +137,23 @@ numbered-after n (l ∷ ls) (suc k) p lt = numbered-after (n + 1) ls k p (omega 
 
 pub numbered : (sheet : List ℕ) → Numbered sheet
 numbered sheet k p lt = numbered-after 0 (lines sheet) k p lt ∙ omega arith
+
+few-onto : (b : ℕ) (ls : List (List ℕ)) → length (onto b ls) ≤ length ls + 1
+few-onto b [] = omega arith
+few-onto b (l ∷ ls) = omega arith
+
+few-lines : (bs : List ℕ) → length (lines bs) ≤ length bs
+few-lines [] = omega arith
+few-lines (b ∷ bs) = by (eqb b 10) (few-lines bs)
+  where
+    by : (t : Bool) → length (lines bs) ≤ length bs → length (cond t ((b ∷ []) ∷ lines bs) (onto b (lines bs))) ≤ suc (length bs)
+    by true h = omega arith
+    by false h = omega (arith, few-onto b (lines bs))
+
+length-after : (n : ℕ) (ls : List (List ℕ)) → length (after n ls) ≡ length ls
+length-after n [] = refl
+length-after n (l ∷ ls) = ap suc (length-after (n + 1) ls)
+
+-- a sheet has no more lines than bytes
+pub few-pieces : (sheet : List ℕ) → length (pieces sheet) ≤ length sheet
+few-pieces sheet = omega (arith, length-after 0 (lines sheet), few-lines sheet)

@@ -6,6 +6,7 @@ use mathlib.Core.Logic.{_⊎_, inl, inr, ⊎-elim}
 use Prim.Native.Nat.{ℕ, _+_, _-_, _*_, _≤_, _<_}
 use native.Mathlib.Omega.{arith}
 use lib.Dec.{eqb, ltb}
+use lib.ListN.{length}
 use Rattle.std.proofs.shelf.Tests.{ltb-false, ltb-true, eqb-true, and-cases, or-from, or-parts, eqb-false, ne-eqb, and-left, and-right, cases-lt, cases-eq, cond-false}
 use Rattle.std.proofs.shelf.Ways.{tells}
 use Rattle.std.specs.Vec.{made}
@@ -19,10 +20,12 @@ use Rattle.inspection.specs.declared.refusal.Refusal.the-variants.{UnitAboveSam
 use Rattle.inspection.specs.declared.tally.Tally.{Tally}
 use Rattle.worksheet.specs.declared.defect.Defect.{Defect}
 use Rattle.worksheet.specs.declared.scoring.Running.{Running}
+use Rattle.worksheet.specs.declared.scoring.Scored.{Scored}
 use Rattle.worksheet.specs.Defects.{Keyed, Pair, pair, same-pair, related, falls}
 use Rattle.worksheet.specs.Pieces.{Piece, number-of, defect-of, pieces}
+use Rattle.worksheet.specs.Promises.{At-most-nine}
 use Rattle.worksheet.specs.Running.{counted, next-line, entered, closed}
-use Rattle.worksheet.specs.Scores.{falls-after, fault-of, fault, or-else, first-bad, said, defects, occurs, tally-of, unless, score-of}
+use Rattle.worksheet.specs.Scores.{falls-after, fault-of, fault, or-else, first-bad, said, defects, occurs, tally-of, unless, score-of, reading-of}
 use Rattle.worksheet.proofs.Tallying.{clean, plus, plus-clean, counted-plus, counted-clean, total-counted, pair-same, merged, tally-merged, tally-fresh}
 use Rattle.worksheet.proofs.Written.{never, piece-back}
 
@@ -211,3 +214,53 @@ going-more units s u ps qs p d r split fine says is fits h =
       ∙ sym (ap (going units s) split)
       ∙ h,
     )
+
+pub going-ends : (units : ℕ) (s : Running) (ps : List Piece) (r : Result Tally Refusal) → ps ≡ [] → going units s ps ≡ r → r ≡ Ok (closed (s .tally) (s .last))
+going-ends units s ps r e h = sym h ∙ ap (going units s) e
+
+pub going-stops : (units : ℕ) (s : Running) (ps qs : List Piece) (p : Piece) (x : Refusal) (r : Result Tally Refusal) → ps ≡ p ∷ qs → fault units (s .last) p ≡ Some x → going units s ps ≡ r → r ≡ Err x
+going-stops units s ps qs p x r split bad h =
+    sym h ∙ ap (going units s) split ∙ ap (λ o. turn o (defect-of p) (λ d. going units (entered (s .tally) (s .last) d) qs)) bad
+
+-- from a running tally that fits, the score has at most nine defects a unit
+going-few : (units : ℕ) (s : Running) (ps : List Piece) → Fits units s → made (going units s ps) (λ t. total-of t ≤ 9 * units)
+going-few units s [] h = fit-closed units (s .tally) (s .last) h
+going-few units s (p ∷ ps) h = by (fault units (s .last) p) refl (defect-of p) refl (λ d k. going-few units (entered (s .tally) (s .last) d) ps k)
+  where
+    by : (x : Option Refusal) → fault units (s .last) p ≡ x → (o : Option Defect) → defect-of p ≡ o → ((d : Defect) → Fits units (entered (s .tally) (s .last) d) → made (going units (entered (s .tally) (s .last) d) ps) (λ t. total-of t ≤ 9 * units)) → made (turn x o (λ d. going units (entered (s .tally) (s .last) d) ps)) (λ t. total-of t ≤ 9 * units)
+    by (Some r) f o e ih = tt
+    by None f None e ih = omega arith
+    by None f (Some d) e ih =
+        let line = sound units (s .last) (number-of p) (defect-of p) f in
+        let same : line .says ≡ d = cc (line .is) in
+        ih d (fit-next units (s .tally) (s .last) d h (piece-back p d e .0) (subst (λ e. e .unit ≤ units) same (line .within)) (subst (λ e. falls-after (s .last) e ≡ false) same (line .on)))
+
+pub score-few : (sheet : List ℕ) (units : ℕ) → At-most-nine units (score-of sheet units)
+score-few sheet units = subst (At-most-nine units) (goes-whole units (pieces sheet)) (going-few units start (pieces sheet) refl)
+
+-- a reading is the score with the number of lines
+abbrev pub with-lines : ℕ → Result Tally Refusal → Result Scored Refusal
+with-lines n (Ok t) = Ok (record { lines = n; tally = t })
+with-lines n (Err e) = Err e
+
+pub reading-is : (sheet : List ℕ) (units : ℕ) → reading-of sheet units ≡ with-lines (length (pieces sheet)) (score-of sheet units)
+reading-is sheet units = by (first-bad units None (pieces sheet))
+  where
+    by : (o : Option Refusal) → unless o (record { lines = length (pieces sheet); tally = tally-of (defects (pieces sheet)) }) ≡ with-lines (length (pieces sheet)) (unless o (tally-of (defects (pieces sheet))))
+    by None = refl
+    by (Some r) = refl
+
+-- what a reading says of the score
+pub read-tally : (sheet : List ℕ) (units : ℕ) (w : Scored) → Ok w ≡ reading-of sheet units → Ok (w .tally) ≡ score-of sheet units
+read-tally sheet units w e = by (score-of sheet units) (e ∙ reading-is sheet units)
+  where
+    by : (r : Result Tally Refusal) → Ok w ≡ with-lines (length (pieces sheet)) r → Ok (w .tally) ≡ r
+    by (Ok t) e = let same : _≡_ {A = Scored} w (record { lines = length (pieces sheet); tally = t }) = cc in ap (λ v. Ok (v .tally)) same
+    by (Err x) e = cc
+
+pub read-refused : (sheet : List ℕ) (units : ℕ) (x : Refusal) → Err x ≡ reading-of sheet units → Err x ≡ score-of sheet units
+read-refused sheet units x e = by (score-of sheet units) (e ∙ reading-is sheet units)
+  where
+    by : (r : Result Tally Refusal) → Err x ≡ with-lines (length (pieces sheet)) r → Err x ≡ r
+    by (Ok t) e = cc
+    by (Err y) e = cc

@@ -37,7 +37,7 @@ use Rattle.worksheet.proofs.Cuts.{Free}
 use Rattle.worksheet.proofs.Going.{turn, going, start, goes-whole}
 use Rattle.worksheet.proofs.Numbers.{own}
 use Rattle.worksheet.proofs.Tallying.{clean}
-use Rattle.worksheet.proofs.Written.{line-forth}
+use Rattle.worksheet.proofs.Written.{line-forth, written-keyed}
 
 -- the line of a defect is the first line of what begins with it
 lines-over : (ds tail l : List ℕ) (ls : List (List ℕ)) → Free 10 (length ds) ds → lines tail ≡ l ∷ ls → lines (ds ++ tail) ≡ (ds ++ l) ∷ ls
@@ -62,8 +62,11 @@ lines-written : (d : Defect) (rest : List ℕ) → Keyed d → lines (written d 
 lines-written d rest k =
     let small : d .unit < 2 ^ 64 = omega (arith, k .unit-most) in
     let free = not-in-digits own (decimal (d .unit)) 10 (digits-decimal own (d .unit) small) (λ h. absurd (omega (arith, h .0))) in
-    ap lines (append-assoc (decimal (d .unit)) (ending d) rest)
+    let form = written-keyed d k in
+    ap (λ l. lines (l ++ rest)) (sym form)
+    ∙ ap lines (append-assoc (decimal (d .unit)) (ending d) rest)
     ∙ lines-over (decimal (d .unit)) (ending d ++ rest) (ending d) (lines rest) free (lines-ending d rest)
+    ∙ ap (λ l. l ∷ lines rest) form
 
 -- the defect at a place of the sample
 abbrev at-place : ℕ → DefectClass → Defect

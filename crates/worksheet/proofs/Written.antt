@@ -11,6 +11,7 @@ use Rattle.std.proofs.shelf.Numerals.{not-in-digits, value-short}
 use Rattle.std.proofs.shelf.Tests.{and-from, and-parts, eqb-true, ltb-true, leb-true, eq-eqb, lt-ltb, le-leb, ne-eqb, cond-true}
 use Rattle.std.specs.Options.{mapped}
 use Rattle.std.specs.Reads.{value}
+use lib.Utf8.{encode}
 use Rattle.std.specs.Written.{decimal}
 use Rattle.std.specs.declared.option.Option.{Option}
 use Rattle.std.specs.declared.option.Option.the-variants.{Some, None}
@@ -63,6 +64,16 @@ unit-forth u low high =
         (and-from _ _ (digits-decimal own u small) (lt-ltb 48 _ (first-decimal u (omega arith) small)))
         (le-leb _ 4 (length-decimal-le 4 u (omega arith) (omega arith) small)) in
     cond-true _ _ _ form ∙ ap Some (value-decimal own u small)
+
+pub letter-encoded : (k : DefectClass) → encode (class-letter k) ≡ class-letter k ∷ []
+unfolding encode
+letter-encoded Critical = refl
+letter-encoded Major = refl
+letter-encoded Minor = refl
+
+-- a keyed defect's cause is one digit
+pub written-keyed : (d : Defect) → Keyed d → decimal (d .unit) ++ 9 ∷ (48 + d .cause) ∷ 9 ∷ class-letter (d .class) ∷ 10 ∷ [] ≡ written d
+written-keyed d k = ap (λ c. decimal (d .unit) ++ (9 ∷ (c ++ (9 ∷ class-letter (d .class) ∷ 10 ∷ [])))) (sym (decimal-digit (d .cause) (omega (arith, k .cause-most))))
 
 -- what follows the unit, likewise
 abbrev Tail : List ℕ → ℕ × DefectClass → Type 0
@@ -120,10 +131,9 @@ piece-back (fields n first rest) d e = by (unit-of first) refl (tail-of rest) re
         let same : _≡_ {A = Defect} (record { unit = o; cause = t .0; class = t .1 }) d = cc in
         let unit = unit-back first o u in
         let tail = tail-back rest t v in
-        subst (λ d. Keyed d × (first ++ 9 ∷ rest ≡ written d)) same (
-          record { unit-least = unit .0; unit-most = unit .1; cause-least = tail .0; cause-most = tail .1 },
-          ap (λ f. f ++ 9 ∷ rest) (unit .2) ∙ ap (λ r. decimal o ++ 9 ∷ r) (tail .2),
-        )
+        let keyed : Keyed (record { unit = o; cause = t .0; class = t .1 }) = record { unit-least = unit .0; unit-most = unit .1; cause-least = tail .0; cause-most = tail .1 } in
+        subst (λ d. Keyed d × (first ++ 9 ∷ rest ≡ written d)) same
+        (keyed, ap (λ f. f ++ 9 ∷ rest) (unit .2) ∙ ap (λ r. decimal o ++ 9 ∷ r) (tail .2) ∙ written-keyed _ keyed)
 
 pub line-forth : (n : ℕ) (d : Defect) → Keyed d → defect-of (piece n (written d)) ≡ Some d
 line-forth n d k =
@@ -131,7 +141,8 @@ line-forth n d k =
     let tail = (48 + d .cause) ∷ 9 ∷ class-letter (d .class) ∷ 10 ∷ [] in
     let free = not-in-digits own (decimal (d .unit)) 9 (digits-decimal own (d .unit) small) (λ h. absurd (omega (arith, h .0))) in
     let cut = parted-field (decimal (d .unit)) tail free in
-    ap (λ o. defect-of (by-tab n (written d) o)) cut
+    ap (λ l. defect-of (piece n l)) (sym (written-keyed d k))
+    ∙ ap (λ o. defect-of (by-tab n (decimal (d .unit) ++ 9 ∷ tail) o)) cut
     ∙ ap (λ o. joint o (tail-of tail)) (unit-forth (d .unit) (k .unit-least) (k .unit-most))
     ∙ ap (joint (Some (d .unit))) (tail-forth (d .cause) (d .class) (k .cause-least) (k .cause-most))
 

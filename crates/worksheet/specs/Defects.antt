@@ -62,7 +62,7 @@ joint (Some u) t = at-unit t u
 
 -- the line of a defect
 abbrev pub written : Defect → List ℕ
-written d = decimal (d .unit) ++ 9 ∷ (48 + d .cause) ∷ 9 ∷ class-letter (d .class) ∷ 10 ∷ []
+written d = decimal (d .unit) ++ (9 ∷ (decimal (d .cause) ++ (9 ∷ class-letter (d .class) ∷ 10 ∷ [])))
 
 -- a defect that a line can say: a unit from 1 to 9,999 and a cause from 1 to 9
 pub record Keyed (d : Defect) : Type 0 where

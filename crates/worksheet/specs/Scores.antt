@@ -3,6 +3,7 @@ use mathlib.Core.Bool.{Bool, true, false, cond, _||_}
 use mathlib.Core.List.{List, [], _∷_}
 use Prim.Native.Nat.{ℕ}
 use lib.Dec.{ltb}
+use lib.ListN.{length}
 use Rattle.std.specs.declared.option.Option.{Option}
 use Rattle.std.specs.declared.option.Option.the-variants.{Some, None}
 use Rattle.std.specs.declared.result.Result.{Result}
@@ -15,6 +16,7 @@ use Rattle.inspection.specs.declared.refusal.Refusal.{Refusal}
 use Rattle.inspection.specs.declared.refusal.Refusal.the-variants.{SheetLineNotOfForm, UnitAboveSample, PairFalls}
 use Rattle.inspection.specs.declared.tally.Tally.{Tally}
 use Rattle.worksheet.specs.declared.defect.Defect.{Defect}
+use Rattle.worksheet.specs.declared.scoring.Scored.{Scored}
 use Rattle.worksheet.specs.Defects.{Pair, pair, same-pair, falls}
 use Rattle.worksheet.specs.Pieces.{Piece, number-of, defect-of, pieces}
 
@@ -90,9 +92,14 @@ by-class f qs = record {
 abbrev pub tally-of : List Defect → Tally
 tally-of ds = by-class (worst ds) (pairs ds)
 
-abbrev pub unless : Option Refusal → Tally → Result Tally Refusal
-unless None t = Ok t
-unless (Some r) t = Err r
+abbrev pub unless : {X : Type 0} → Option Refusal → X → Result X Refusal
+unless None x = Ok x
+unless (Some r) x = Err r
 
 abbrev pub score-of : List ℕ → ℕ → Result Tally Refusal
 score-of sheet units = unless (first-bad units None (pieces sheet)) (tally-of (defects (pieces sheet)))
+
+-- the same with the number of lines read
+abbrev pub reading-of : List ℕ → ℕ → Result Scored Refusal
+reading-of sheet units =
+    unless (first-bad units None (pieces sheet)) (record { lines = length (pieces sheet); tally = tally-of (defects (pieces sheet)) })

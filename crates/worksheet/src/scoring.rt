@@ -7,7 +7,7 @@ ghost use Rattle.inspection.specs.Tallies.{total-of};
 ghost use Rattle.worksheet.specs.Pieces.{shown, defect-of};
 ghost use Rattle.worksheet.specs.Promises.{At-most-nine, Some-sheet-shows};
 ghost use Rattle.worksheet.specs.Running.{counted as counting, entered, closed};
-ghost use Rattle.worksheet.specs.Scores.{fault, score-of};
+ghost use Rattle.worksheet.specs.Scores.{fault, score-of, reading-of};
 use crate::defect::Defect;
 use crate::lines::Item;
 use crate::lines::Lines;
@@ -15,6 +15,16 @@ use crate::lines::LinesIterator;
 use inspection::class::DefectClass;
 use inspection::refusal::Refusal;
 use inspection::tally::Tally;
+use inspection::tally::TallyDebug;
+use inspection::tally::TallyEq;
+use inspection::tally::TallyPartialEq;
+
+// A sheet without a bad line: how many lines it has, and the tally of its sample.
+#[derive(Clone, Copy, PartialEq, Eq, Debug)]
+pub struct Scored {
+    pub lines: usize,
+    pub tally: Tally,
+}
 
 // How far scoring has come: the tally of the pairs that are done, and the pair of the last line with its worst class so far.
 #[derive(Clone, Copy)]
@@ -108,19 +118,31 @@ fn check(item: &Item<'_>, units: u32, last: Option<Defect>) -> Result<Defect, Re
     Ok(defect)
 }
 
-// The tally of a sheet of so many sample units, or what is wrong with its first bad line.
-pub fn score(sheet: &[u8], units: u32) -> Result<Tally, Refusal>
-    ensures answer { λ r. ⌜ r ≡ score-of (now (sheet .entry)) units ⌝ }
-    ensures few { λ r. ⌜ At-most-nine units r ⌝ }
+// What a sheet of so many sample units scores, or what is wrong with its first bad line.
+pub fn read(sheet: &[u8], units: u32) -> Result<Scored, Refusal>
+    ensures answer { λ r. ⌜ r ≡ reading-of (now (sheet .entry)) units ⌝ }
 {
+    let mut lines = 0usize;
     let mut running = Running {
         tally: Tally::CLEAN,
         last: None,
     };
     for item in Lines::new(sheet) {
         running = running.enter(check(&item, units, running.last)?);
+        lines += 1;
     }
-    Ok(running.close())
+    Ok(Scored {
+        lines,
+        tally: running.close(),
+    })
+}
+
+// The tally alone.
+pub fn score(sheet: &[u8], units: u32) -> Result<Tally, Refusal>
+    ensures answer { λ r. ⌜ r ≡ score-of (now (sheet .entry)) units ⌝ }
+    ensures few { λ r. ⌜ At-most-nine units r ⌝ }
+{
+    Ok(read(sheet, units)?.tally)
 }
 
 // Every tally of at most nine defects a unit is the score of some sheet.
