@@ -54,7 +54,10 @@ pub struct Notice {
 fn plain(number: u8) -> Notice
     ensures { λ r. ⌜ r ≡ unplaced number ⌝ }
 {
-    Notice { number, place: None }
+    Notice {
+        number,
+        place: None,
+    }
 }
 
 fn placed(number: u8, place: Place) -> Notice
@@ -113,13 +116,15 @@ impl Refusal {
             Refusal::LotAwaits => "a lot awaits its second sample",
             Refusal::NoLotAwaits => "no lot awaits a second sample, or the slip is another's",
             Refusal::SlipIsOut => "the slip is out",
-            Refusal::LotSizeOutOfRange => "the lot size is below the plan's first row or above 9999999",
+            Refusal::LotSizeOutOfRange =>
+                "the lot size is below the plan's first row or above 9999999",
             Refusal::ReliefOffNormal => "relief is granted on normal inspection only",
             Refusal::SpellTooShort => "the spell is shorter than the window",
             Refusal::TooManyRejected => "too many are rejected in the last window",
             Refusal::TooFewUnits => "the samples have fewer units than the first limit row",
             Refusal::DefectsAboveLimit => "the defects are above their limit",
-            Refusal::NoticeOffReduced => "irregular production is reported on reduced inspection only",
+            Refusal::NoticeOffReduced =>
+                "irregular production is reported on reduced inspection only",
             Refusal::NoRoom => "the book has no room",
             Refusal::BookUnsound { .. } => "no line would have written it",
             Refusal::EntryUnwritable => "the entry cannot be written",

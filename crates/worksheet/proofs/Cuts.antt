@@ -2,24 +2,21 @@
 use mathlib.Core.Path.{_≡_, refl, sym, ap, subst, _∙_}
 use mathlib.Core.Bool.{Bool, true, false, cond}
 use mathlib.Core.List.{List, [], _∷_, _++_}
+use mathlib.Core.Logic.{inl, inr, ⊎-elim}
 use Prim.Native.Nat.{ℕ, zero, suc, _+_, _-_, _≤_, _<_}
 use native.Mathlib.Numerals.{add-one}
 use native.Mathlib.Nat.{sub-zero}
 use native.Mathlib.Omega.{arith}
 use lib.Dec.{eqb}
 use lib.ListN.{length, getD, take, drop}
-use Rattle.std.proofs.shelf.Lists.{take-rest, take-all, drop-all, length-drop}
-use Rattle.std.proofs.shelf.Tests.{ne-eqb, eq-eqb, eqb-true}
+use Rattle.std.proofs.shelf.Lists.{take-rest, take-all, drop-all, length-take, length-drop, length-take-le, getD-take, take-append-drop, drop-more}
+use Rattle.std.proofs.shelf.Tests.{ne-eqb, eq-eqb, eqb-true, cases-lt}
 use Rattle.std.specs.Joined.{joined}
 use Rattle.std.specs.declared.option.Option.{Option}
 use Rattle.std.specs.declared.option.Option.the-variants.{Some, None}
-use Rattle.worksheet.specs.Texts.{onto, lines, before, parted}
+use Rattle.worksheet.specs.Texts.{onto, lines, before, parted, Free, First-at, Unmarked, Line-end}
 use Rattle.worksheet.specs.Pieces.{Piece, fields, bare, number-of, text-of, by-tab, piece, after, pieces}
 use Rattle.worksheet.specs.Promises.{Whole, Numbered}
-
--- x does not stand at a place before n
-abbrev pub Free : ℕ → ℕ → List ℕ → Type 0
-Free x n bs = (k : ℕ) → k < n → getD bs k 0 ≡ x → ⊥
 
 free-tail : (x n b : ℕ) (bs : List ℕ) → Free x (suc n) (b ∷ bs) → Free x n bs
 free-tail x n b bs f k lt = f (suc k) (omega arith)
@@ -64,36 +61,83 @@ parted-whole (b ∷ bs) first rest e = by (eqb b 9) refl (parted bs) (λ q. part
         let r : q .1 ≡ rest = ap (λ p. p .1) same in
         subst (λ l. l ++ 9 ∷ rest ≡ b ∷ bs) n (subst (λ l. (b ∷ q .0) ++ 9 ∷ l ≡ b ∷ bs) r (ap (λ l. b ∷ l) (h q refl)))
 
--- a line as the reader takes it apart
-pub piece-at-tab : (n : ℕ) (bs : List ℕ) (i : ℕ) → i < length bs → getD bs i 0 ≡ 9 → Free 9 i bs → fields n (take (i - 0) bs) (take (length bs - (i + 1)) (drop (i + 1) bs)) ≡ piece n bs
-piece-at-tab n bs i lt at f = rw (take-rest bs (i + 1), sub-zero, add-one) (sym (ap (by-tab n bs) (parted-cut bs i lt at f)))
+-- a field without a tab is parted off
+pub parted-field : (ds r : List ℕ) → Free 9 (length ds) ds → parted (ds ++ 9 ∷ r) ≡ Some (ds, r)
+parted-field [] r f = refl
+parted-field (d ∷ ds) r f =
+    simp (ne-eqb d 9 (f 0 (omega arith)), parted-field ds r (free-tail 9 _ d ds f))
 
-pub piece-bare : (n : ℕ) (bs : List ℕ) → Free 9 (length bs) bs → bare n bs ≡ piece n bs
-piece-bare n bs f = sym (ap (by-tab n bs) (parted-none bs f))
+-- bytes without a line feed belong to the line that they stand before
+pub lines-over : (ds tail l : List ℕ) (ls : List (List ℕ)) → Free 10 (length ds) ds → lines tail ≡ l ∷ ls → lines (ds ++ tail) ≡ (ds ++ l) ∷ ls
+lines-over [] tail l ls f e = e
+lines-over (d ∷ ds) tail l ls f e =
+    simp (ne-eqb d 10 (f 0 (omega arith)), lines-over ds tail l ls (free-tail 10 _ d ds f) e)
 
--- the first line of bs ends at the place e
-pub record Ends (bs : List ℕ) (e : ℕ) : Type 0 where
-  pub some : 0 < e
-  pub within : e ≤ length bs
-  pub cut : lines bs ≡ take e bs ∷ lines (drop e bs)
+-- the first line of bs, and what follows it
+abbrev pub Taken : ℕ → List ℕ → Piece → List ℕ → Type 0
+Taken n bs p rest = (l : List ℕ) × (lines bs ≡ l ∷ lines rest) × (p ≡ piece n l)
 
-pub ends-at-feed : (bs : List ℕ) (i : ℕ) → i < length bs → getD bs i 0 ≡ 10 → Free 10 i bs → Ends bs (i + 1)
-ends-at-feed bs i lt at f = record { some = omega arith; within = omega arith; cut = rw (add-one i) (lines-cut bs i lt at f) }
+free-front : (x i : ℕ) (bs : List ℕ) → i ≤ length bs → Free x i bs → Free x (length (take i bs)) (take i bs)
+free-front x i bs le f k lt at =
+    let short = length-take-le i bs le in
+    f k (omega arith) (sym (getD-take i bs k 0 (omega arith)) ∙ at)
 
-pub ends-with-text : (bs : List ℕ) → 0 < length bs → Free 10 (length bs) bs → Ends bs (length bs)
-ends-with-text [] lt f = absurd (omega arith)
-ends-with-text (b ∷ bs) lt f =
+pub taken-whole : (n : ℕ) (bs : List ℕ) → 0 < length bs → Unmarked (length bs) bs → Taken n bs (bare n bs) (take (length bs - length bs) (drop (length bs) bs))
+taken-whole n [] some f = absurd (omega arith)
+taken-whole n (b ∷ bs) some f =
+    (b ∷ bs, lines-last b bs (f .1) ∙ ap (λ r. (b ∷ bs) ∷ lines r) (sym (take-rest (b ∷ bs) (length (b ∷ bs)) ∙ drop-all (length (b ∷ bs)) (b ∷ bs) (omega arith))), sym (ap (by-tab n (b ∷ bs)) (parted-none (b ∷ bs) (f .0))))
+
+pub taken-bare : (n : ℕ) (bs : List ℕ) (i : ℕ) → i < length bs → Unmarked i bs → getD bs i 0 ≡ 10 → Taken n bs (bare n (take ((i + 1) - 0) bs)) (take (length bs - (i + 1)) (drop (i + 1) bs))
+taken-bare n bs i lt f at =
+    rw (take-rest bs (i + 1), sub-zero, add-one i)
+    (take (suc i) bs, lines-cut bs i lt at (f .1), sym (ap (by-tab n (take (suc i) bs)) (parted-none (take (suc i) bs) no-tab)))
+  where
+    no-tab : Free 9 (length (take (suc i) bs)) (take (suc i) bs)
+    no-tab k few tab =
+        let short = length-take (suc i) bs in
+        let same = getD-take (suc i) bs k 0 (omega arith) in
+        ⊎-elim (λ less. f .0 k less (sym same ∙ tab)) (λ last. let is : k ≡ i = omega arith in absurd (omega (arith, same, tab, at, ap (λ j. getD bs j 0) is))) (cases-lt k i)
+
+-- what follows the tab, up to the end of the line
+pub record Rest (end : List ℕ) (e : ℕ) : Type 0 where
+  pub within : e ≤ length end
+  pub cut : lines (9 ∷ end) ≡ (9 ∷ take e end) ∷ lines (drop e end)
+
+rest-at-feed : (end : List ℕ) (i : ℕ) → First-at 10 i end → Rest end (i + 1)
+rest-at-feed end i f =
+    record { within = omega (arith, f .0); cut = rw (add-one i) (ap (onto 9) (lines-cut end i (f .0) (f .1) (f .2))) }
+
+rest-to-end : (end : List ℕ) → Free 10 (length end) end → Rest end (length end)
+rest-to-end [] f = record { within = omega arith; cut = refl }
+rest-to-end (b ∷ bs) f =
     let front = take-all (length (b ∷ bs)) (b ∷ bs) (omega arith) in
     let back = drop-all (length (b ∷ bs)) (b ∷ bs) (omega arith) in
-    record { some = lt; within = omega arith; cut = rw (front, back) (lines-last b bs f) }
+    record { within = omega arith; cut = rw (front, back) (ap (onto 9) (lines-last b bs f)) }
 
--- a sheet as the reader takes its first line off
-pub first-line : (n : ℕ) (bs : List ℕ) (e : ℕ) (p : Piece) → Ends bs e → p ≡ piece (n + 1) (take (e - 0) bs) → after n (lines bs) ≡ p ∷ after (n + 1) (lines (take (length bs - e) (drop e bs)))
-first-line n bs e p h is =
-    rw (take-rest bs e) (ap (after n) (h .cut) ∙ ap (λ q. q ∷ after (n + 1) (lines (drop e bs))) (sym (is ∙ rw sub-zero)))
+pub rest-at-end : (end : List ℕ) (e : ℕ) → Line-end end e → Rest end e
+rest-at-end end e (inl h) = subst (Rest end) (sym (h .1)) (rest-at-feed end (h .0) (h .2))
+rest-at-end end e (inr h) = subst (Rest end) (sym (h .0)) (rest-to-end end (h .1))
 
-pub fewer : (bs : List ℕ) (e : ℕ) → Ends bs e → length (take (length bs - e) (drop e bs)) < length bs
-fewer bs e h = simp (take-rest, length-drop) (omega (arith, h .some, h .within))
+pub taken-fields : (n : ℕ) (bs end : List ℕ) (i e : ℕ) → i < length bs → Unmarked i bs → getD bs i 0 ≡ 9 → end ≡ drop (i + 1) bs → Rest end e → Taken n bs (fields n (take (i - 0) bs) (take (e - 0) end)) (take (length end - e) (drop e end))
+taken-fields n bs end i e lt f at is h =
+    let first = take i bs in
+    let split : bs ≡ first ++ 9 ∷ end = sym (take-append-drop i bs) ∙ ap (λ r. first ++ r) (drop-more bs i 0 lt ∙ ap (λ b. b ∷ drop (i + 1) bs) at ∙ ap (λ r. 9 ∷ r) (sym is)) in
+    rw (take-rest end e, sub-zero)
+    (rw sub-zero (
+      first ++ 9 ∷ take e end,
+      ap lines split ∙ lines-over first (9 ∷ end) (9 ∷ take e end) (lines (drop e end)) (free-front 10 i bs (omega arith) (f .1)) (h .cut),
+      sym (ap (by-tab n (first ++ 9 ∷ take e end)) (parted-field first (take e end) (free-front 9 i bs (omega arith) (f .0)))),
+    ))
+
+pub next-taken : (n : ℕ) (bs : List ℕ) (p : Piece) (rest : List ℕ) → Taken (n + 1) bs p rest → after n (lines bs) ≡ p ∷ after (n + 1) (lines rest)
+next-taken n bs p rest t = ap (after n) (t .1) ∙ ap (λ q. q ∷ after (n + 1) (lines rest)) (sym (t .2))
+
+-- what follows a line is shorter
+pub shorter : (bs : List ℕ) (e : ℕ) → 0 < e → e ≤ length bs → length (take (length bs - e) (drop e bs)) < length bs
+shorter bs e some within = simp (take-rest, length-drop) (omega arith)
+
+pub no-longer : (bs : List ℕ) (e : ℕ) → length (take (length bs - e) (drop e bs)) ≤ length bs
+no-longer bs e = simp (take-rest, length-drop) (omega arith)
 
 pub no-line : (n : ℕ) (bs : List ℕ) → length bs ≡ 0 → after n (lines bs) ≡ []
 no-line n [] e = refl

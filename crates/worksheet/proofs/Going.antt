@@ -206,13 +206,12 @@ pub going-more : (units : ℕ) (s u : Running) (ps qs : List Piece) (p : Piece) 
 going-more units s u ps qs p d r split fine says is fits h =
     let line = sound units (s .last) (number-of p) (defect-of p) fine in
     let same : line .says ≡ d = cc (line .is) in
-    let keyed = piece-back p d says .0 in
-    (
+    let keyed = piece-back p d says .0 in (
       subst (Fits units) (sym is) (fit-next units (s .tally) (s .last) d fits keyed (subst (λ e. e .unit ≤ units) same (line .within)) (subst (λ e. falls-after (s .last) e ≡ false) same (line .on))),
       ap (λ v. going units v qs) is
-      ∙ sym (ap (λ o. turn o (defect-of p) (λ d. going units (entered (s .tally) (s .last) d) qs)) fine ∙ ap (λ o. turn None o (λ d. going units (entered (s .tally) (s .last) d) qs)) says)
-      ∙ sym (ap (going units s) split)
-      ∙ h,
+          ∙ sym (ap (λ o. turn o (defect-of p) (λ d. going units (entered (s .tally) (s .last) d) qs)) fine ∙ ap (λ o. turn None o (λ d. going units (entered (s .tally) (s .last) d) qs)) says)
+          ∙ sym (ap (going units s) split)
+          ∙ h,
     )
 
 pub going-ends : (units : ℕ) (s : Running) (ps : List Piece) (r : Result Tally Refusal) → ps ≡ [] → going units s ps ≡ r → r ≡ Ok (closed (s .tally) (s .last))

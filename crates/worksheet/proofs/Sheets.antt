@@ -33,17 +33,11 @@ use Rattle.worksheet.specs.Promises.{Some-sheet-shows}
 use Rattle.worksheet.specs.Running.{counted, next-line, entered}
 use Rattle.worksheet.specs.Scores.{fault, fault-of, falls-after, score-of}
 use Rattle.worksheet.specs.Texts.{onto, lines}
-use Rattle.worksheet.proofs.Cuts.{Free}
+use Rattle.worksheet.proofs.Cuts.{lines-over}
 use Rattle.worksheet.proofs.Going.{turn, going, start, goes-whole}
 use Rattle.worksheet.proofs.Numbers.{own}
 use Rattle.worksheet.proofs.Tallying.{clean}
 use Rattle.worksheet.proofs.Written.{line-forth, written-keyed}
-
--- the line of a defect is the first line of what begins with it
-lines-over : (ds tail l : List ℕ) (ls : List (List ℕ)) → Free 10 (length ds) ds → lines tail ≡ l ∷ ls → lines (ds ++ tail) ≡ (ds ++ l) ∷ ls
-lines-over [] tail l ls f e = e
-lines-over (d ∷ ds) tail l ls f e =
-    simp (ne-eqb d 10 (f 0 (omega arith)), lines-over ds tail l ls (λ k lt. f (suc k) (omega arith)) e)
 
 letter-no-feed : (c : DefectClass) → eqb (class-letter c) 10 ≡ false
 letter-no-feed Critical = refl
@@ -73,7 +67,7 @@ abbrev at-place : ℕ → DefectClass → Defect
 at-place k c = record { unit = k / 9 + 1; cause = k % 9 + 1; class = c }
 
 keyed-at : (units k : ℕ) (c : DefectClass) → units ≤ 9999 → k < 9 * units → Keyed (at-place k c)
-keyed-at units k c few lt = 
+keyed-at units k c few lt =
     let low = mod-lt k {m = 9} (omega arith) in
     let whole = div-add-mod k 9 in
     record { unit-least = omega arith; unit-most = omega arith; cause-least = omega arith; cause-most = omega arith }

@@ -24,7 +24,7 @@ use Rattle.worksheet.specs.Defects.{unit-form, unit-of, tail-form, tail-of, at
 use Rattle.worksheet.specs.Pieces.{Piece, fields, bare, text-of, defect-of, by-tab, piece}
 use Rattle.worksheet.specs.Promises.{Reads-back}
 use Rattle.worksheet.specs.Texts.{before, parted}
-use Rattle.worksheet.proofs.Cuts.{Free, text-of-piece}
+use Rattle.worksheet.proofs.Cuts.{parted-field, text-of-piece}
 use Rattle.worksheet.proofs.Numbers.{own}
 
 -- nothing is not something
@@ -60,9 +60,9 @@ unit-forth : (u : ℕ) → 1 ≤ u → u ≤ 9999 → unit-of (decimal u) ≡ So
 unit-forth u low high =
     let small : u < 2 ^ 64 = omega arith in
     let form : unit-form (decimal u) ≡ true =
-        and-from _ _
-        (and-from _ _ (digits-decimal own u small) (lt-ltb 48 _ (first-decimal u (omega arith) small)))
-        (le-leb _ 4 (length-decimal-le 4 u (omega arith) (omega arith) small)) in
+    and-from _ _
+    (and-from _ _ (digits-decimal own u small) (lt-ltb 48 _ (first-decimal u (omega arith) small)))
+    (le-leb _ 4 (length-decimal-le 4 u (omega arith) (omega arith) small)) in
     cond-true _ _ _ form ∙ ap Some (value-decimal own u small)
 
 pub letter-encoded : (k : DefectClass) → encode (class-letter k) ≡ class-letter k ∷ []
@@ -113,12 +113,6 @@ tail-forth n k low high =
     let form : tail-form (48 + n) 9 10 ≡ true = and-from _ _ (and-from _ _ (lt-ltb 48 (48 + n) (omega arith)) (le-leb (48 + n) 57 (omega arith))) refl in
     let digit : (48 + n) - 48 ≡ n = omega arith in
     cond-true _ _ _ form ∙ ap (mapped (λ k. ((48 + n) - 48, k))) (class-forth k) ∙ ap (λ m. Some (m, k)) digit
-
--- a field without a tab is parted off
-parted-field : (ds r : List ℕ) → Free 9 (length ds) ds → parted (ds ++ 9 ∷ r) ≡ Some (ds, r)
-parted-field [] r f = refl
-parted-field (d ∷ ds) r f =
-    simp (ne-eqb d 9 (f 0 (omega arith)), parted-field ds r (λ k lt. f (suc k) (omega arith)))
 
 pub piece-back : (p : Piece) (d : Defect) → defect-of p ≡ Some d → Keyed d × (text-of p ≡ written d)
 piece-back (bare n text) d e = never e

@@ -17,7 +17,10 @@ pub enum Item<'a> {
         rest: &'a [u8],
     },
     // A line without a tab.
-    Bare { line: usize, text: &'a [u8] },
+    Bare {
+        line: usize,
+        text: &'a [u8],
+    },
 }
 
 // What is left to read, and the number of the lines read so far.

@@ -148,5 +148,4 @@ pub fn score(sheet: &[u8], units: u32) -> Result<Tally, Refusal>
 // Every tally of at most nine defects a unit is the score of some sheet.
 pub fn some_sheet_shows_every_tally()
     ensures { λ _. ⌜ Some-sheet-shows ⌝ }
-{
-}
+{}

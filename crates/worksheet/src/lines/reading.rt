@@ -1,11 +1,12 @@
 // Taking the lines of a sheet off its front.
 ghost use mathlib.Core.Path.{_≡_};
-ghost use mathlib.Core.List.{[], _∷_};
+ghost use mathlib.Core.List.{List, [], _∷_};
 ghost use Prim.Native.Nat.{ℕ, _+_, _<_, _≤_};
-ghost use lib.ListN.{length, getD};
+ghost use lib.ListN.{length};
 ghost use Rattle.std.specs.Options.{Cases};
 ghost use Rattle.worksheet.specs.Defects.{unit-of, tail-of};
 ghost use Rattle.worksheet.specs.Pieces.{pieces, piece, shown, to-come, number-of, defect-of};
+ghost use Rattle.worksheet.specs.Texts.{lines, Free, First-at, Unmarked, Mark-at, Line-end};
 ghost use Rattle.worksheet.specs.Promises.{Whole, Numbered, Reads-back};
 use crate::defect::Defect;
 use crate::lines::Item;
@@ -14,7 +15,7 @@ use inspection::class::DefectClass;
 
 // Where the byte stands first.
 fn position(bytes: &[u8], byte: u8) -> Option<usize>
-    ensures { λ r. ⌜ Cases r ((k : ℕ) → k < length (now (bytes .entry)) → getD (now (bytes .entry)) k 0 ≡ byte → ⊥) (λ i. (i < length (now (bytes .entry))) × (getD (now (bytes .entry)) i 0 ≡ byte) × ((k : ℕ) → k < i → getD (now (bytes .entry)) k 0 ≡ byte → ⊥)) ⌝ }
+    ensures { λ r. ⌜ Cases r (Free byte (length (now (bytes .entry))) (now (bytes .entry))) (λ i. First-at byte i (now (bytes .entry))) ⌝ }
 {
     for (i, b) in bytes.iter().enumerate() {
         if *b == byte {
@@ -24,18 +25,54 @@ fn position(bytes: &[u8], byte: u8) -> Option<usize>
     None
 }
 
-// A line, parted by its first tab.
-fn part(line: usize, text: &[u8]) -> Item<'_>
-    ensures { λ r. ⌜ shown r ≡ piece line (now (text .entry)) ⌝ }
+// Where a tab or a line feed stands first.
+fn first_mark(bytes: &[u8]) -> Option<usize>
+    ensures { λ r. ⌜ Cases r (Unmarked (length (now (bytes .entry))) (now (bytes .entry))) (λ i. Mark-at i (now (bytes .entry))) ⌝ }
 {
-    match position(text, b'\t') {
-        Some(tab) => Item::Fields {
-            line,
-            first: &text[0..tab],
-            rest: &text[tab + 1..],
-        },
-        None => Item::Bare { line, text },
+    for (i, b) in bytes.iter().enumerate() {
+        if *b == b'\t' || *b == b'\n' {
+            return Some(i);
+        }
     }
+    None
+}
+
+// Where the line ends that the bytes begin with.
+fn line_end(bytes: &[u8]) -> usize
+    ensures { λ r. ⌜ Line-end (now (bytes .entry)) r ⌝ }
+{
+    // What follows a unit's tab on a line of form.
+    if let [cause, tab, class, b'\n', ..] = bytes
+        && *cause != b'\n'
+        && *tab != b'\n'
+        && *class != b'\n'
+    {
+        return 4;
+    }
+    match position(bytes, b'\n') {
+        Some(feed) => feed + 1,
+        None => bytes.len(),
+    }
+}
+
+// The first line of the bytes, and what follows it. Each byte is looked at once.
+fn take_line(line: usize, bytes: &[u8]) -> (Item<'_>, &[u8])
+    requires { ⌜ 0 < length (now bytes) ⌝ }
+    ensures item { λ r. ⌜ ((l : List ℕ) × (lines (now (bytes .entry)) ≡ l ∷ lines (now (r .1))) × (shown (r .0) ≡ piece line l)) ⌝ }
+    ensures fewer { λ r. ⌜ length (now (r .1)) < length (now (bytes .entry)) ⌝ }
+{
+    let Some(mark) = first_mark(bytes) else {
+        return (Item::Bare { line, text: bytes }, &bytes[bytes.len()..]);
+    };
+    let after = &bytes[mark + 1..];
+    if bytes[mark] == b'\n' {
+        let text = &bytes[0..mark + 1];
+        return (Item::Bare { line, text }, after);
+    }
+    let end = line_end(after);
+    let first = &bytes[0..mark];
+    let rest = &after[0..end];
+    (Item::Fields { line, first, rest }, &after[end..])
 }
 
 impl<'a> Lines<'a> {
@@ -65,17 +102,10 @@ pub impl<'a> Iterator for Lines<'a> as LinesIterator {
         if bytes.is_empty() {
             return None;
         }
-        let end = match position(bytes, b'\n') {
-            Some(feed) => feed + 1,
-            None => bytes.len(),
-        };
         let line = self.line + 1;
-        let text = &bytes[0..end];
-        *self = Lines {
-            rest: &bytes[end..],
-            line,
-        };
-        Some(part(line, text))
+        let (item, rest) = take_line(line, bytes);
+        *self = Lines { rest, line };
+        Some(item)
     }
 }
 

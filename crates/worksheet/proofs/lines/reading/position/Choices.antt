@@ -1,8 +1,5 @@
-use Prim.Native.Nat.{ℕ, _<_}
-use mathlib.Core.Path.{_≡_}
-use lib.ListN.{getD}
+use Rattle.worksheet.specs.Texts.{Free}
 use Rattle.worksheet.proofs.lines.reading.position.Given as given
 
--- the byte stands at no place before i
 abbrev pub Inv-loop-i : given.InvT-loop-i
-Inv-loop-i l = (k : ℕ) → k < l .i → getD (l .bytes) k 0 ≡ l .byte → ⊥
+Inv-loop-i l = Free (l .byte) (l .i) (l .bytes)

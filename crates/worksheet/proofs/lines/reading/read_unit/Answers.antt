@@ -10,10 +10,10 @@ returns-in-rest c = not-some (c .args .field .now) (omega (arith, ltb-true))
 pub returns-then-digit-lt48 : need.returns-then-digit-lt48
 returns-then-digit-lt48 c =
     not-digit _ (c .loop-digit .digit-index) (c .loop-digit-test .taken) (λ digit.
-        elim (c .then-digit-lt48 .came) [
-          then-digit-lt48·by·then-digit-lt48 w ↦ omega (arith, digit .0)
-        | then-digit-lt48·by·else-digit-lt48·then-digit-gt57 w ↦ omega (arith, digit .1)
-        ])
+    elim (c .then-digit-lt48 .came) [
+      | then-digit-lt48·by·then-digit-lt48 w ↦ omega (arith, digit .0)
+      | then-digit-lt48·by·else-digit-lt48·then-digit-gt57 w ↦ omega (arith, digit .1)
+    ])
 
 pub mul-unit : need.mul-unit
 mul-unit c = omega (arith, read-small _ _ _ (c .loop-digit .inv) (c .loop-digit-test .taken) (c .if-field-gt4 .left))
