@@ -6,7 +6,6 @@ use mathlib.Core.Logic.{_⊎_, inl, inr, ⊎-elim}
 use Prim.Native.Nat.{ℕ, _+_, _-_, _*_, _≤_, _<_}
 use native.Mathlib.Omega.{arith}
 use lib.Dec.{eqb, ltb}
-use lib.ListN.{length}
 use Rattle.std.proofs.shelf.Tests.{ltb-false, ltb-true, eqb-true, and-cases, or-from, or-parts, eqb-false, ne-eqb, and-left, and-right, cases-lt, cases-eq, cond-false}
 use Rattle.std.proofs.shelf.Ways.{tells}
 use Rattle.std.specs.Vec.{made}
@@ -20,12 +19,11 @@ use Rattle.inspection.specs.declared.refusal.Refusal.the-variants.{UnitAboveSam
 use Rattle.inspection.specs.declared.tally.Tally.{Tally}
 use Rattle.worksheet.specs.declared.defect.Defect.{Defect}
 use Rattle.worksheet.specs.declared.scoring.Running.{Running}
-use Rattle.worksheet.specs.declared.scoring.Scored.{Scored}
 use Rattle.worksheet.specs.Defects.{Keyed, Pair, pair, same-pair, related, falls}
 use Rattle.worksheet.specs.Pieces.{Piece, number-of, defect-of, pieces}
 use Rattle.worksheet.specs.Promises.{At-most-nine}
 use Rattle.worksheet.specs.Running.{counted, next-line, entered, closed}
-use Rattle.worksheet.specs.Scores.{falls-after, fault-of, fault, or-else, first-bad, said, defects, occurs, tally-of, unless, score-of, reading-of}
+use Rattle.worksheet.specs.Scores.{falls-after, fault-of, fault, or-else, first-bad, said, defects, occurs, tally-of, unless, score-of}
 use Rattle.worksheet.proofs.Tallying.{clean, plus, plus-clean, counted-plus, counted-clean, total-counted, pair-same, merged, tally-merged, tally-fresh}
 use Rattle.worksheet.proofs.Written.{never, piece-back}
 
@@ -236,30 +234,3 @@ going-few units s (p ∷ ps) h = by (fault units (s .last) p) refl (defect-of p)
 
 pub score-few : (sheet : List ℕ) (units : ℕ) → At-most-nine units (score-of sheet units)
 score-few sheet units = subst (At-most-nine units) (goes-whole units (pieces sheet)) (going-few units start (pieces sheet) refl)
-
--- a reading is the score with the number of lines
-abbrev pub with-lines : ℕ → Result Tally Refusal → Result Scored Refusal
-with-lines n (Ok t) = Ok (record { lines = n; tally = t })
-with-lines n (Err e) = Err e
-
-pub reading-is : (sheet : List ℕ) (units : ℕ) → reading-of sheet units ≡ with-lines (length (pieces sheet)) (score-of sheet units)
-reading-is sheet units = by (first-bad units None (pieces sheet))
-  where
-    by : (o : Option Refusal) → unless o (record { lines = length (pieces sheet); tally = tally-of (defects (pieces sheet)) }) ≡ with-lines (length (pieces sheet)) (unless o (tally-of (defects (pieces sheet))))
-    by None = refl
-    by (Some r) = refl
-
--- what a reading says of the score
-pub read-tally : (sheet : List ℕ) (units : ℕ) (w : Scored) → Ok w ≡ reading-of sheet units → Ok (w .tally) ≡ score-of sheet units
-read-tally sheet units w e = by (score-of sheet units) (e ∙ reading-is sheet units)
-  where
-    by : (r : Result Tally Refusal) → Ok w ≡ with-lines (length (pieces sheet)) r → Ok (w .tally) ≡ r
-    by (Ok t) e = let same : _≡_ {A = Scored} w (record { lines = length (pieces sheet); tally = t }) = cc in ap (λ v. Ok (v .tally)) same
-    by (Err x) e = cc
-
-pub read-refused : (sheet : List ℕ) (units : ℕ) (x : Refusal) → Err x ≡ reading-of sheet units → Err x ≡ score-of sheet units
-read-refused sheet units x e = by (score-of sheet units) (e ∙ reading-is sheet units)
-  where
-    by : (r : Result Tally Refusal) → Err x ≡ with-lines (length (pieces sheet)) r → Err x ≡ r
-    by (Ok t) e = cc
-    by (Err y) e = cc

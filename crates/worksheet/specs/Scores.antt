@@ -3,7 +3,6 @@ use mathlib.Core.Bool.{Bool, true, false, cond, _||_}
 use mathlib.Core.List.{List, [], _∷_}
 use Prim.Native.Nat.{ℕ}
 use lib.Dec.{ltb}
-use lib.ListN.{length}
 use Rattle.std.specs.declared.option.Option.{Option}
 use Rattle.std.specs.declared.option.Option.the-variants.{Some, None}
 use Rattle.std.specs.declared.result.Result.{Result}
@@ -99,7 +98,7 @@ unless (Some r) x = Err r
 abbrev pub score-of : List ℕ → ℕ → Result Tally Refusal
 score-of sheet units = unless (first-bad units None (pieces sheet)) (tally-of (defects (pieces sheet)))
 
--- the same with the number of lines read
-abbrev pub reading-of : List ℕ → ℕ → Result Scored Refusal
-reading-of sheet units =
-    unless (first-bad units None (pieces sheet)) (record { lines = length (pieces sheet); tally = tally-of (defects (pieces sheet)) })
+-- what a reading says besides its number of lines
+abbrev pub tally-part : Result Scored Refusal → Result Tally Refusal
+tally-part (Ok w) = Ok (w .tally)
+tally-part (Err r) = Err r

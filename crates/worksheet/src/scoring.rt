@@ -1,13 +1,15 @@
 // Scoring a sheet in one pass.
 ghost use mathlib.Core.Path.{_≡_};
 ghost use Prim.Native.Nat.{ℕ, _≤_};
+ghost use lib.ListN.{length};
 ghost use Rattle.std.specs.Results.{Cases};
+ghost use Rattle.std.specs.Vec.{made};
 ghost use Rattle.std.specs.declared.option.Option.the-variants.{Some, None};
 ghost use Rattle.inspection.specs.Tallies.{total-of};
-ghost use Rattle.worksheet.specs.Pieces.{shown, defect-of};
-ghost use Rattle.worksheet.specs.Promises.{At-most-nine, Some-sheet-shows};
+ghost use Rattle.worksheet.specs.Pieces.{shown, defect-of, pieces};
+ghost use Rattle.worksheet.specs.Promises.{At-most-nine};
 ghost use Rattle.worksheet.specs.Running.{counted as counting, entered, closed};
-ghost use Rattle.worksheet.specs.Scores.{fault, score-of, reading-of};
+ghost use Rattle.worksheet.specs.Scores.{fault, score-of, tally-part};
 use crate::defect::Defect;
 use crate::lines::Item;
 use crate::lines::Lines;
@@ -120,7 +122,9 @@ fn check(item: &Item<'_>, units: u32, last: Option<Defect>) -> Result<Defect, Re
 
 // What a sheet of so many sample units scores, or what is wrong with its first bad line.
 pub fn read(sheet: &[u8], units: u32) -> Result<Scored, Refusal>
-    ensures answer { λ r. ⌜ r ≡ reading-of (now (sheet .entry)) units ⌝ }
+    ensures score { λ r. ⌜ tally-part r ≡ score-of (now (sheet .entry)) units ⌝ }
+    ensures lines { λ r. ⌜ made r (λ w. w .lines ≡ length (pieces (now (sheet .entry)))) ⌝ }
+    ensures few { λ r. ⌜ At-most-nine units (tally-part r) ⌝ }
 {
     let mut lines = 0usize;
     let mut running = Running {
@@ -144,8 +148,3 @@ pub fn score(sheet: &[u8], units: u32) -> Result<Tally, Refusal>
 {
     Ok(read(sheet, units)?.tally)
 }
-
-// Every tally of at most nine defects a unit is the score of some sheet.
-pub fn some_sheet_shows_every_tally()
-    ensures { λ _. ⌜ Some-sheet-shows ⌝ }
-{}

@@ -7,7 +7,6 @@ ghost use Rattle.std.specs.Options.{Cases};
 ghost use Rattle.worksheet.specs.Defects.{unit-of, tail-of};
 ghost use Rattle.worksheet.specs.Pieces.{pieces, piece, shown, to-come, number-of, defect-of};
 ghost use Rattle.worksheet.specs.Texts.{lines, Free, First-at, Unmarked, Mark-at, Line-end};
-ghost use Rattle.worksheet.specs.Promises.{Whole, Numbered, Reads-back};
 use crate::defect::Defect;
 use crate::lines::Item;
 use crate::lines::Lines;
@@ -77,9 +76,7 @@ fn take_line(line: usize, bytes: &[u8]) -> (Item<'_>, &[u8])
 
 impl<'a> Lines<'a> {
     pub fn new(sheet: &'a [u8]) -> Lines<'a>
-        ensures all { λ r. ⌜ to-come r ≡ pieces (now (sheet .entry)) ⌝ }
-        ensures whole { λ _. ⌜ Whole (now (sheet .entry)) ⌝ }
-        ensures numbered { λ _. ⌜ Numbered (now (sheet .entry)) ⌝ }
+        ensures { λ r. ⌜ to-come r ≡ pieces (now (sheet .entry)) ⌝ }
     {
         Lines {
             rest: sheet,
@@ -153,8 +150,7 @@ impl Item<'_> {
 
     // What the line says, if it is of form.
     pub fn defect(&self) -> Option<Defect>
-        ensures value { λ r. ⌜ r ≡ defect-of (shown (now (self .entry))) ⌝ }
-        ensures inverse { λ _. ⌜ Reads-back ⌝ }
+        ensures { λ r. ⌜ r ≡ defect-of (shown (now (self .entry))) ⌝ }
     {
         match *self {
             Item::Fields { first, rest, .. } => {

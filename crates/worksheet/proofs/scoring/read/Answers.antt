@@ -3,12 +3,12 @@ use native.Mathlib.Omega.{arith}
 use lib.ListN.{length}
 use Rattle.worksheet.specs.Pieces.{to-come, pieces}
 use Rattle.worksheet.proofs.Cuts.{few-pieces}
-use Rattle.worksheet.proofs.Going.{going, start, goes-whole, going-more, going-ends, going-stops, with-lines, reading-is}
+use Rattle.worksheet.proofs.Going.{going, start, goes-whole, going-more}
 use Rattle.worksheet.proofs.scoring.read.Needs as need
 
 pub loop-item-holds : need.loop-item-holds
 loop-item-holds c =
-    let all = ap to-come (c .into-iter-item-iterator .ensures .becomes) ∙ c .new-item-items .ensures .all in
+    let all = ap to-come (c .into-iter-item-iterator .ensures .becomes) ∙ c .new-item-items .ensures in
     (tt, tt, refl, ap (going (c .args .units) start) all ∙ goes-whole (c .args .units) (pieces (c .args .sheet .now)), omega (arith, ap length all))
 
 pub loop-item-again : need.loop-item-again

@@ -26,4 +26,4 @@ loop-digit-again c = read-more _ _ _ (c .loop-digit-test .taken) (c .if-digit-lt
 
 pub returns : need.returns
 returns c =
-    unit-read _ _ _ (c .loop-digit .inv) (c .loop-digit-test .left) (omega (arith, ltb-false)) (c .if-first-eq48 .left) (c .if-field-gt4 .left)
+    unit-read _ _ _ (c .loop-digit .inv) (c .loop-digit-test .left) (omega (arith, ltb-false)) (λ zero. omega arith) (c .if-field-gt4 .left)
