@@ -1,0 +1,1 @@
+// The line of text of an entry.
