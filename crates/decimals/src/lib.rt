@@ -35,5 +35,4 @@ pub fn write_digits(places: &mut [u8], number: u32)
 pub fn written_digits_read_back()
     ensures written { λ _. ⌜ Written-back ⌝ }
     ensures read { λ _. ⌜ Read-back ⌝ }
-{
-}
+{}

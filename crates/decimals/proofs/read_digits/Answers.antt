@@ -7,10 +7,10 @@ use Rattle.decimals.proofs.read_digits.Needs.{then-digit-lt48·by·then-digit-
 pub returns-then-digit-lt48 : need.returns-then-digit-lt48
 returns-then-digit-lt48 c =
     not-digit _ (c .loop-digit .digit-index) (c .loop-digit-test .taken) (λ digit.
-        elim (c .then-digit-lt48 .came) [
-          then-digit-lt48·by·then-digit-lt48 w ↦ omega (arith, digit .0)
-        | then-digit-lt48·by·else-digit-lt48·then-digit-gt57 w ↦ omega (arith, digit .1)
-        ])
+    elim (c .then-digit-lt48 .came) [
+      | then-digit-lt48·by·then-digit-lt48 w ↦ omega (arith, digit .0)
+      | then-digit-lt48·by·else-digit-lt48·then-digit-gt57 w ↦ omega (arith, digit .1)
+    ])
 
 pub mul-number : need.mul-number
 mul-number c = omega (arith, read-small _ _ _ (c .loop-digit .inv) (c .loop-digit-test .taken) (c .if-digits-gt9 .left))
