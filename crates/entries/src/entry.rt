@@ -1,6 +1,6 @@
 // One entry of a book: what a call did, under which status, and with what outcome.
 ghost use mathlib.Core.Path.{_≡_};
-ghost use Rattle.entries.specs.Entries.{writable, no-numbers, fits-fields};
+ghost use Rattle.entries.specs.Entries.{writable, no-numbers, fits-fields, or-spoiled};
 use inspection::kind::Kind;
 use inspection::kind::KindDebug;
 use inspection::kind::KindEq;
@@ -73,6 +73,17 @@ impl Entry {
             Kind::Portion => self.lot_size == 0 && self.fits_its_fields(),
             Kind::Lot | Kind::SecondSample => self.fits_its_fields(),
             Kind::Spoiled => false,
+        }
+    }
+
+    // The entry itself, or the spoiled one where it cannot stand in a book.
+    pub fn or_spoiled(&self) -> Entry
+        ensures { λ r. ⌜ r ≡ or-spoiled (now (self .entry)) ⌝ }
+    {
+        if self.is_writable() {
+            *self
+        } else {
+            Entry::SPOILED
         }
     }
 }

@@ -98,8 +98,8 @@ pub fn read_line(line: &[u8]) -> Entry
     ensures { λ r. ⌜ r ≡ entry-in (now (line .entry)) ⌝ }
 {
     match read_fields(line) {
-        Some(entry) if entry.is_writable() => entry,
-        _ => Entry::SPOILED,
+        Some(entry) => entry.or_spoiled(),
+        None => Entry::SPOILED,
     }
 }
 

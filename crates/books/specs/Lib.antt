@@ -1,0 +1,4 @@
+pub mod Books
+pub mod Stores
+pub mod Volumes
+pub mod Bounds
