@@ -39,8 +39,10 @@ impl<'a> TableBook<'a> {
         self.records.len().min(LARGEST as usize)
     }
 
+    // The places that are used: one for each entry.
     fn used(&self) -> usize
-        ensures { λ r. ⌜ r ≡ cut (now (self .entry) .count) (length (now (now (self .entry) .records))) ⌝ }
+        ensures places { λ r. ⌜ r ≡ cut (now (self .entry) .count) (length (now (now (self .entry) .records))) ⌝ }
+        ensures entries { λ r. ⌜ r ≡ length (table-entries (now (self .entry) .count) (now (now (self .entry) .records))) ⌝ }
     {
         self.count.min(self.places())
     }

@@ -42,8 +42,10 @@ impl<'a> TextBook<'a> {
         (self.bytes.len() / LINE).min(LARGEST as usize)
     }
 
+    // The places that are used: one for each entry.
     fn used(&self) -> usize
-        ensures { λ r. ⌜ r ≡ cut (now (self .entry) .count) (lines-in (now (now (self .entry) .bytes))) ⌝ }
+        ensures places { λ r. ⌜ r ≡ cut (now (self .entry) .count) (lines-in (now (now (self .entry) .bytes))) ⌝ }
+        ensures entries { λ r. ⌜ r ≡ length (text-entries (now (self .entry) .count) (now (now (self .entry) .bytes))) ⌝ }
     {
         self.count.min(self.places())
     }

@@ -43,6 +43,7 @@ read-more ds i n lt low high r =
 
 -- what is no number, and why
 not-number : (ds : List ℕ) → digits-form ds ≡ false → None ≡ numeral ds
+unfolding numeral
 not-number ds e = sym (cond-false (digits-form ds) (Some (value 10 ds)) None e)
 
 pub not-some : (ds : List ℕ) → length ds ≡ 0 → None ≡ numeral ds
@@ -56,6 +57,7 @@ not-digit ds i lt out =
     not-number ds (and-right _ _ (⊎-elim (λ e. absurd (out (digit-at ds i (own .to ds e) lt))) (λ e. e) (cases-bool (allDigits ds))))
 
 pub number-read : (ds : List ℕ) (i n : ℕ) → Read ds i n → length ds ≤ i → 0 < length ds → length ds ≤ 9 → Some n ≡ numeral ds
+unfolding numeral
 number-read ds i n r done some few =
     let all = take-all i ds done in
     let form : digits-form ds ≡ true = and-from _ _ (and-from _ _ (lt-ltb 0 (length ds) some) (le-leb (length ds) 9 few)) (own .from ds (subst (Digits 10) all (r .digits))) in

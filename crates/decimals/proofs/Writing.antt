@@ -57,6 +57,7 @@ value-padded (suc w) n lt =
     omega (arith, value-push 10 (padded w (n / 10)) (48 + n % 10), digit-of (n % 10) low, front)
 
 pub written-back : Written-back
+unfolding numeral
 written-back w n some few lt =
     let long = length-padded w n in
     let form : digits-form (padded w n) ≡ true = and-from _ _ (and-from _ _ (lt-ltb 0 (length (padded w n)) (omega arith)) (le-leb (length (padded w n)) 9 (omega arith))) (own .from _ (digits-padded w n)) in
@@ -80,6 +81,7 @@ padded-front ds d (suc i) le =
     ∙ sym (subst (λ k. take k ds ≡ take i ds ++ getD ds i 0 ∷ []) (add-one i) (take-more ds i 0 lt))
 
 pub read-back : Read-back
+unfolding numeral
 read-back ds n e = by (digits-form ds) refl e
   where
     by : (t : Bool) → digits-form ds ≡ t → cond t (Some (value 10 ds)) None ≡ Some n → (n < 10 ^ length ds) × (ds ≡ padded (length ds) n)

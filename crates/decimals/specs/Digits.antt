@@ -14,7 +14,8 @@ use Rattle.std.specs.declared.option.Option.the-variants.{Some, None}
 abbrev pub digits-form : List ℕ → Bool
 digits-form ds = (ltb 0 (length ds) && leb (length ds) 9) && allDigits ds
 
-abbrev pub numeral : List ℕ → Option ℕ
+-- the number that they write; it stays shut where it is not asked for, so that proofs above stay short
+unfoldable pub numeral : List ℕ → Option ℕ
 numeral ds = cond (digits-form ds) (Some (value 10 ds)) None
 
 -- the last w digits of n, zeros before it where it has fewer

@@ -1,5 +1,4 @@
 pub mod Cuts
-pub mod Numbers
 pub mod Written
 pub mod Tallying
 pub mod Going

@@ -35,7 +35,7 @@ use Rattle.worksheet.specs.Scores.{fault, fault-of, falls-after, score-of}
 use Rattle.worksheet.specs.Texts.{onto, lines}
 use Rattle.worksheet.proofs.Cuts.{lines-over}
 use Rattle.worksheet.proofs.Going.{turn, going, start, goes-whole}
-use Rattle.worksheet.proofs.Numbers.{own}
+use Rattle.decimals.proofs.Reading.{own}
 use Rattle.worksheet.proofs.Tallying.{clean}
 use Rattle.worksheet.proofs.Written.{line-forth, written-keyed}
 

@@ -3,6 +3,7 @@ use mathlib.Core.Path.{_≡_, refl, sym, ap, subst, _∙_}
 use mathlib.Core.Bool.{Bool, true, false, cond, _&&_}
 use mathlib.Core.List.{List, [], _∷_, _++_}
 use Prim.Native.Nat.{ℕ, zero, suc, _+_, _-_, _^_, _≤_, _<_}
+use native.Mathlib.Nat.{pow-le-pow-right}
 use native.Mathlib.Omega.{arith}
 use lib.Dec.{eqb, ltb, leb}
 use lib.ListN.{length, getD}
@@ -15,6 +16,10 @@ use lib.Utf8.{encode}
 use Rattle.std.specs.Written.{decimal}
 use Rattle.std.specs.declared.option.Option.{Option}
 use Rattle.std.specs.declared.option.Option.the-variants.{Some, None}
+use Rattle.std.specs.shelf.Text.{allDigits}
+use Rattle.decimals.specs.Digits.{digits-form, numeral}
+use Rattle.decimals.proofs.Reading.{own}
+use Rattle.decimals.proofs.Writing.{read-back as numeral-back}
 use Rattle.inspection.proofs.Lettered.{lettered-back}
 use Rattle.inspection.specs.Letters.{class-letter, class-of}
 use Rattle.inspection.specs.declared.class.DefectClass.{DefectClass}
@@ -25,7 +30,6 @@ use Rattle.worksheet.specs.Pieces.{Piece, fields, bare, text-of, defect-of, by
 use Rattle.worksheet.specs.Promises.{Reads-back}
 use Rattle.worksheet.specs.Texts.{before, parted}
 use Rattle.worksheet.proofs.Cuts.{parted-field, text-of-piece}
-use Rattle.worksheet.proofs.Numbers.{own}
 
 -- nothing is not something
 pub never : {X : Type 0} {P : Type 0} {x : X} → None ≡ Some x → P
@@ -41,29 +45,42 @@ not-zero ds (suc u) e h = omega arith
 
 -- a unit's digits are what `decimal` writes of it, and the other way
 unit-back : (ds : List ℕ) (u : ℕ) → unit-of ds ≡ Some u → (1 ≤ u) × (u ≤ 9999) × (ds ≡ decimal u)
-unit-back ds u e = by (unit-form ds) refl e
+unfolding numeral
+unit-back ds u e = by (unit-form ds) refl (digits-form ds) refl e
   where
-    by : (t : Bool) → unit-form ds ≡ t → cond t (Some (value 10 ds)) None ≡ Some u → (1 ≤ u) × (u ≤ 9999) × (ds ≡ decimal u)
-    by false t e = never e
-    by true t e =
+    by : (t : Bool) → unit-form ds ≡ t → (d : Bool) → digits-form ds ≡ d → cond t (cond d (Some (value 10 ds)) None) None ≡ Some u → (1 ≤ u) × (u ≤ 9999) × (ds ≡ decimal u)
+    by false t d f e = never e
+    by true t false f e = never e
+    by true t true f e =
         let is : value 10 ds ≡ u = cc in
-        let parts = and-parts _ _ t in
-        let led = and-parts _ _ (parts .0) in
-        let short = leb-true (length ds) 4 (parts .1) in
-        let first = ltb-true 48 (getD ds 0 0) (led .1) in
-        let small = value-short own ds 4 (led .0) short in
+        let led = and-parts (ltb 48 (getD ds 0 0)) _ t in
+        let digits = and-parts (ltb 0 (length ds) && leb (length ds) 9) (allDigits ds) f .1 in
+        let short = leb-true (length ds) 4 (led .1) in
+        let first = ltb-true 48 (getD ds 0 0) (led .0) in
+        let small = value-short own ds 4 digits short in
         let some = led-some ds (omega arith) in
-        let same = decimal-value own ds (led .0) some (λ z. absurd (omega arith)) (omega arith) in
+        let same = decimal-value own ds digits some (λ z. absurd (omega arith)) (omega arith) in
         (not-zero ds u (sym same ∙ ap decimal is) first, omega (arith, is), sym same ∙ ap decimal is)
 
 unit-forth : (u : ℕ) → 1 ≤ u → u ≤ 9999 → unit-of (decimal u) ≡ Some u
+unfolding numeral
 unit-forth u low high =
+    let ds = decimal u in
     let small : u < 2 ^ 64 = omega arith in
-    let form : unit-form (decimal u) ≡ true =
-    and-from _ _
-    (and-from _ _ (digits-decimal own u small) (lt-ltb 48 _ (first-decimal u (omega arith) small)))
-    (le-leb _ 4 (length-decimal-le 4 u (omega arith) (omega arith) small)) in
-    cond-true _ _ _ form ∙ ap Some (value-decimal own u small)
+    let short = length-decimal-le 4 u (omega arith) (omega arith) small in
+    let form : unit-form ds ≡ true = and-from _ _ (lt-ltb 48 (getD ds 0 0) (first-decimal u (omega arith) small)) (le-leb (length ds) 4 short) in
+    let digits : digits-form ds ≡ true = and-from _ _ (and-from _ _ (lt-ltb 0 (length ds) (decimal-some u small)) (le-leb (length ds) 9 (omega arith))) (digits-decimal own u small) in
+    cond-true _ _ _ form ∙ cond-true _ _ _ digits ∙ ap Some (value-decimal own u small)
+
+pub no-unit : (ds : List ℕ) → length ds < 1 → None ≡ unit-of ds
+no-unit [] h = refl
+no-unit (d ∷ ds) h = absurd (omega arith)
+
+-- a unit fits its width
+pub unit-small : (ds : List ℕ) (u : ℕ) → length ds ≤ 4 → Some u ≡ numeral ds → u < 10000
+unit-small ds u short e =
+    let fits = numeral-back ds u (sym e) .0 in
+    omega (arith, fits, pow-le-pow-right {n = 10} (omega arith) short)
 
 pub letter-encoded : (k : DefectClass) → encode (class-letter k) ≡ class-letter k ∷ []
 unfolding encode

@@ -6,11 +6,10 @@ use Prim.Native.Nat.{ℕ, _+_, _-_, _≤_}
 use lib.Dec.{eqb, leb, ltb}
 use lib.ListN.{length, getD}
 use Rattle.std.specs.Options.{mapped}
-use Rattle.std.specs.Reads.{value}
 use Rattle.std.specs.Written.{decimal}
-use Rattle.std.specs.shelf.Text.{allDigits}
 use Rattle.std.specs.declared.option.Option.{Option}
 use Rattle.std.specs.declared.option.Option.the-variants.{Some, None}
+use Rattle.decimals.specs.Digits.{numeral}
 use Rattle.inspection.specs.Letters.{class-letter, class-of}
 use Rattle.inspection.specs.declared.class.DefectClass.{DefectClass}
 use Rattle.worksheet.specs.declared.defect.Defect.{Defect}
@@ -33,12 +32,13 @@ related a b = same-pair (pair a) (pair b)
 abbrev pub falls : Defect → Defect → Bool
 falls a b = ltb (a .unit) (b .unit) || (eqb (a .unit) (b .unit) && ltb (a .cause) (b .cause))
 
--- one to four decimal digits, the first not 0
+-- at most four bytes, the first above the digit 0
 abbrev pub unit-form : List ℕ → Bool
-unit-form ds = (allDigits ds && ltb 48 (getD ds 0 0)) && leb (length ds) 4
+unit-form ds = ltb 48 (getD ds 0 0) && leb (length ds) 4
 
+-- a number without leading zero
 abbrev pub unit-of : List ℕ → Option ℕ
-unit-of ds = cond (unit-form ds) (Some (value 10 ds)) None
+unit-of ds = cond (unit-form ds) (numeral ds) None
 
 -- what follows the unit's tab: a cause of one digit from 1 to 9, tab, class, line feed
 abbrev pub tail-form : ℕ → ℕ → ℕ → Bool

@@ -1,4 +1,6 @@
 use native.Mathlib.Omega.{arith}
+use borrow.Author.Needs.{needs}
+use Rattle.decimals.specs.Digits.{numeral}
 use borrow.Author.Tests.{false-eqb}
 use Rattle.decimals.proofs.Reading.{read-small, read-more, not-digit, number-read}
 use Rattle.decimals.proofs.read_digits.Needs as need
@@ -23,3 +25,7 @@ loop-digit-again c = read-more _ _ _ (c .loop-digit-test .taken) (c .if-digit-lt
 
 pub returns : need.returns
 returns c = number-read _ _ _ (c .loop-digit .inv) (c .loop-digit-test .left) (omega (arith, false-eqb _ 0 (c .if-is-empty .ensures tt))) (c .if-digits-gt9 .left)
+
+pub returns-then-is-empty : need.returns-then-is-empty
+unfolding numeral
+returns-then-is-empty c = search needs

@@ -10,6 +10,7 @@ ghost use Rattle.worksheet.specs.Texts.{lines, Free, First-at, Unmarked, Mark-
 use crate::defect::Defect;
 use crate::lines::Item;
 use crate::lines::Lines;
+use decimals::read_digits;
 use inspection::class::DefectClass;
 
 // Where the byte stands first.
@@ -113,17 +114,13 @@ fn read_unit(field: &[u8]) -> Option<u16>
     let [first, ..] = field else {
         return None;
     };
-    if *first == b'0' || field.len() > 4 {
+    if *first <= b'0' || field.len() > 4 {
         return None;
     }
-    let mut unit = 0u16;
-    for digit in field {
-        if *digit < b'0' || *digit > b'9' {
-            return None;
-        }
-        unit = unit * 10 + (*digit - b'0') as u16;
+    match read_digits(field) {
+        Some(unit) => Some(unit as u16),
+        None => None,
     }
-    Some(unit)
 }
 
 // The cause and the class that follow the unit.

@@ -28,7 +28,7 @@ returns c =
     let some = open-to (spare count (lines-in bytes)) entry (λ z. omega arith) fine in
     let placed : c .write-line .result ≡ true = search needs in
     let line : c .write-line .last .place ≡ line-of entry = c .write-line .ensures .bytes ∙ cond-true _ _ _ placed in
-    let used = c .used-used .ensures in
+    let used = c .used-used .ensures .places in
     record {
       answer = ap answered some;
       bytes = line-placed bytes (c .write-line .last .place) (c .used-used .result) entry line ∙ (λ i. line-after (some i) (used i) entry bytes);

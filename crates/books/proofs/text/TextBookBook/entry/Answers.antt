@@ -20,7 +20,7 @@ returns-then-number-eq0 c =
     let long = length-stored (cut (c .args .self .now .count) (lines-in bytes)) bytes in
     elim (c .then-number-eq0 .came) [
       | then-number-eq0·by·then-number-eq0 w ↦ numbered-zero es ∙ ap (λ n. numbered n es) (sym (w .if-number-eq0 .taken))
-      | then-number-eq0·by·else-number-eq0·then-number-used w ↦ numbered-beyond (c .args .number) es (omega (arith, w .used .ensures, w .if-number-used .taken))
+      | then-number-eq0·by·else-number-eq0·then-number-used w ↦ numbered-beyond (c .args .number) es (omega (arith, w .used .ensures .places, w .if-number-used .taken))
     ]
 
 pub returns : need.returns
