@@ -2,9 +2,11 @@
 ghost use denote.Ref.{now};
 ghost use mathlib.Core.Path.{_≡_};
 ghost use mathlib.Core.Bool.{true};
+ghost use Prim.Native.Nat.{_≤_};
 ghost use lib.ListN.{length};
+ghost use Rattle.std.specs.declared.option.Option.the-variants.{Some};
 ghost use Rattle.std.specs.Results.{isErr};
-ghost use Rattle.books.specs.Books.{refusal, answered};
+ghost use Rattle.books.specs.Books.{numbered, refusal, answered};
 ghost use Rattle.books.specs.Stores.{cut, spare, usable, table-entries, record-after, count-after};
 ghost use Rattle.books.specs.Bounds.{table-few};
 use crate::book::Book;
@@ -47,6 +49,16 @@ impl<'a> TableBook<'a> {
         self.count.min(self.places())
     }
 
+    // What stands at a number.
+    fn read_at(&self, number: u32) -> Entry
+        requires some { ⌜ (number ≡ 0 → ⊥) ⌝ }
+        requires within { ⌜ number ≤ cut (now self .count) (length (now (now self .records))) ⌝ }
+        ensures { λ r. ⌜ Some r ≡ numbered number (table-entries (now (self .entry) .count) (now (now (self .entry) .records))) ⌝ }
+    {
+        let record = self.records[number as usize - 1];
+        record.or_spoiled()
+    }
+
     // Adds an entry; says which record holds what then.
     pub fn add_record(&mut self, entry: Entry) -> Result<(), Refusal>
         ensures answer { λ r. ⌜ r ≡ answered (refusal (spare (now (self .entry) .count) (length (now (now (self .entry) .records)))) entry) ⌝ }
@@ -86,8 +98,7 @@ pub impl<'a> Book for TableBook<'a> as TableBookBook {
         if number == 0 || number as usize > self.used() {
             return None;
         }
-        let record = self.records[number as usize - 1];
-        Some(record.or_spoiled())
+        Some(self.read_at(number))
     }
 
     fn add(&mut self, entry: Entry) -> Result<(), Refusal> {

@@ -2,9 +2,11 @@
 ghost use denote.Ref.{now};
 ghost use mathlib.Core.Path.{_≡_};
 ghost use mathlib.Core.Bool.{true};
+ghost use Prim.Native.Nat.{_<_, _≤_};
 ghost use lib.ListN.{length};
+ghost use Rattle.std.specs.declared.option.Option.the-variants.{Some, None};
 ghost use Rattle.std.specs.Results.{isErr};
-ghost use Rattle.books.specs.Books.{refusal, answered};
+ghost use Rattle.books.specs.Books.{numbered, refusal, answered};
 ghost use Rattle.books.specs.Stores.{cut, spare, usable, lines-in, text-entries, line-after, count-after};
 ghost use Rattle.books.specs.Bounds.{text-few};
 use crate::book::Book;
@@ -50,6 +52,26 @@ impl<'a> TextBook<'a> {
         self.count.min(self.places())
     }
 
+    // What stands at a number.
+    fn read_at(&self, number: u32) -> Entry
+        requires some { ⌜ (number ≡ 0 → ⊥) ⌝ }
+        requires within { ⌜ number ≤ cut (now self .count) (lines-in (now (now self .bytes))) ⌝ }
+        ensures { λ r. ⌜ Some r ≡ numbered number (text-entries (now (self .entry) .count) (now (now (self .entry) .bytes))) ⌝ }
+    {
+        let at = (number as usize - 1) * LINE;
+        read_line(&self.bytes[at..at + LINE])
+    }
+
+    // Writes the entry's line into a place, and no other byte.
+    fn write_at(&mut self, place: usize, entry: &Entry)
+        requires { ⌜ place < usable (lines-in (now (now self .bytes))) ⌝ }
+        ensures bytes { λ _. ⌜ now (now (self .exit) .bytes) ≡ line-after None place (now (entry .entry)) (now (now (self .entry) .bytes)) ⌝ }
+        ensures count { λ _. ⌜ now (self .exit) .count ≡ now (self .entry) .count ⌝ }
+    {
+        let at = place * LINE;
+        write_line(&mut self.bytes[at..at + LINE], entry);
+    }
+
     // Adds an entry; says what every byte is then.
     pub fn add_line(&mut self, entry: Entry) -> Result<(), Refusal>
         ensures answer { λ r. ⌜ r ≡ answered (refusal (spare (now (self .entry) .count) (lines-in (now (now (self .entry) .bytes)))) entry) ⌝ }
@@ -64,8 +86,7 @@ impl<'a> TextBook<'a> {
         if !entry.is_writable() {
             return Err(Refusal::EntryUnwritable);
         }
-        let at = used * LINE;
-        write_line(&mut self.bytes[at..at + LINE], &entry);
+        self.write_at(used, &entry);
         self.count = used + 1;
         Ok(())
     }
@@ -90,8 +111,7 @@ pub impl<'a> Book for TextBook<'a> as TextBookBook {
         if number == 0 || number as usize > self.used() {
             return None;
         }
-        let at = (number as usize - 1) * LINE;
-        Some(read_line(&self.bytes[at..at + LINE]))
+        Some(self.read_at(number))
     }
 
     fn add(&mut self, entry: Entry) -> Result<(), Refusal> {

@@ -1,4 +1,5 @@
 -- What each refusal is told as: its fixed number, and the place that it names.
+use mathlib.Core.Path.{_≡_}
 use Prim.Native.Nat.{ℕ}
 use Rattle.std.specs.declared.option.Option.{Option}
 use Rattle.std.specs.declared.option.Option.the-variants.{Some, None}
@@ -38,3 +39,7 @@ notice-of (PlanLineNotOfForm line) = placed 51 (PlanLine line)
 notice-of (PlanBoundBroken line) = placed 52 (PlanLine line)
 notice-of (PlanRowOutOfOrder line) = placed 53 (PlanLine line)
 notice-of PlanRowCountsWrong = plain 54
+
+-- no two refusals are told alike
+abbrev pub Told-apart : Type 0
+Told-apart = (a b : Refusal) → notice-of a ≡ notice-of b → a ≡ b

@@ -1,6 +1,6 @@
 // Why a call is refused.
 ghost use mathlib.Core.Path.{_≡_};
-ghost use Rattle.inspection.specs.Notices.{notice-of, plain as unplaced, placed as naming};
+ghost use Rattle.inspection.specs.Notices.{notice-of, Told-apart, plain as unplaced, placed as naming};
 use std::fmt;
 
 #[derive(Clone, Copy, PartialEq, Eq, Debug)]
@@ -100,6 +100,11 @@ impl Refusal {
         }
     }
 }
+
+// Number and place tell every refusal from every other, so a promise about one is a promise about the other.
+pub fn notices_tell_refusals_apart()
+    ensures { λ _. ⌜ Told-apart ⌝ }
+{}
 
 impl Refusal {
     // What is wrong, in words.
