@@ -1,7 +1,7 @@
 // What books keep.
-use crate::samples::lot;
-use crate::samples::opened;
-use crate::samples::portion;
+use crate::lot;
+use crate::opened;
+use crate::portion;
 use books::book::Book;
 use books::table::TableBook;
 use books::table::TableBookBook;

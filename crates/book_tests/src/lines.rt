@@ -1,7 +1,7 @@
 // Lines of text, both ways.
-use crate::samples::lot;
-use crate::samples::opened;
-use crate::samples::portion;
+use crate::lot;
+use crate::opened;
+use crate::portion;
 use entries::entry::Entry;
 use entries::entry::EntryDebug;
 use entries::entry::EntryPartialEq;

@@ -24,11 +24,12 @@ abbrev pub falls-after : Option Defect → Defect → Bool
 falls-after None d = false
 falls-after (Some b) d = falls d b
 
+-- the same of a line with the number n that says a defect, or none
 abbrev pub fault-of : ℕ → Option Defect → ℕ → Option Defect → Option Refusal
 fault-of units last n None = Some (SheetLineNotOfForm n)
 fault-of units last n (Some d) = cond (ltb units (d .unit)) (Some (UnitAboveSample n)) (cond (falls-after last d) (Some (PairFalls n)) None)
 
--- what is wrong with a line that follows the line of `last`: not of form, then its unit above the sample, then its pair falling
+-- what is wrong with a line that follows the line of `last`: not of form (11), then its unit above the sample (12), then its pair falling (13)
 abbrev pub fault : ℕ → Option Defect → Piece → Option Refusal
 fault units last p = fault-of units last (number-of p) (defect-of p)
 
@@ -95,6 +96,7 @@ abbrev pub unless : {X : Type 0} → Option Refusal → X → Result X Refusal
 unless None x = Ok x
 unless (Some r) x = Err r
 
+-- the tally of a sheet of so many sample units, or the refusal of its first bad line
 abbrev pub score-of : List ℕ → ℕ → Result Tally Refusal
 score-of sheet units = unless (first-bad units None (pieces sheet)) (tally-of (defects (pieces sheet)))
 

@@ -41,7 +41,7 @@ fn first_mark(bytes: &[u8]) -> Option<usize>
 fn line_end(bytes: &[u8]) -> usize
     ensures { λ r. ⌜ Line-end (now (bytes .entry)) r ⌝ }
 {
-    // What follows a unit's tab on a line of form.
+    // The usual case first: what follows a unit's tab on a line of form.
     if let [cause, tab, class, b'\n', ..] = bytes
         && *cause != b'\n'
         && *tab != b'\n'
@@ -55,7 +55,7 @@ fn line_end(bytes: &[u8]) -> usize
     }
 }
 
-// The first line of the bytes, and what follows it. Each byte is looked at once.
+// The first line of the bytes, and what follows it.
 fn take_line(line: usize, bytes: &[u8]) -> (Item<'_>, &[u8])
     requires { ⌜ 0 < length (now bytes) ⌝ }
     ensures item { λ r. ⌜ ((l : List ℕ) × (lines (now (bytes .entry)) ≡ l ∷ lines (now (r .1))) × (shown (r .0) ≡ piece line l)) ⌝ }
