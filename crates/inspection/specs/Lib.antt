@@ -1,3 +1,4 @@
 pub mod Letters
 pub mod Tallies
 pub mod Notices
+pub mod Statuses

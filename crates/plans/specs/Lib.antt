@@ -1,0 +1,3 @@
+pub mod Plans
+pub mod Fresh
+pub mod Finding
