@@ -1,7 +1,7 @@
 // Numbers as decimal digits: in a fixed number of places, and without leading zeros.
 ghost use Rattle.std.specs.Prelude.{◌≡◌, length};
 ghost use Rattle.std.specs.Option.{option_map};
-ghost use Rattle.decimals.specs.Digits.{numeral, number as plain-number, clipped, led, padded, WrittenBack, ReadBack};
+ghost use Rattle.decimals.specs.Digits.{numeral, number as plain_number, clipped, led, padded, WrittenBack, ReadBack};
 
 // The number that one to nine digits write; no other bytes write one.
 pub fn read_digits(digits: &[u8]) -> Option<u32>
@@ -32,7 +32,7 @@ fn is_led(digits: &[u8]) -> bool
 
 // The number that digits write without leading zero, however many they are; one that does not fit is read as the largest that does.
 pub fn read_number(digits: &[u8]) -> Option<u32>
-    ensures { result ≡ option_map clipped (plain-number digits.now) }
+    ensures { result ≡ option_map clipped (plain_number digits.now) }
 {
     if !is_led(digits) {
         return None;
