@@ -1,4 +1,6 @@
 // Tests of entries, their lines and the books, in a crate of their own.
+#![tactic(auto)]
+
 #[cfg(test)]
 mod keeping;
 #[cfg(test)]

@@ -1,4 +1,6 @@
 // Books: lists of entries with room for more, whatever they stand on.
+#![tactic(auto)]
+
 pub mod book;
 pub mod table;
 pub mod text;

@@ -1,4 +1,6 @@
 // Numbers as decimal digits: in a fixed number of places, and without leading zeros.
+#![tactic(auto)]
+
 ghost use Rattle.std.specs.Prelude.{◌≡◌, length};
 ghost use Rattle.std.specs.Option.{option_map};
 ghost use Rattle.decimals.specs.Digits.{numeral, number as plain_number, clipped, led, padded, WrittenBack, ReadBack};

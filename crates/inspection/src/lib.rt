@@ -1,4 +1,6 @@
 // The words of inspection: what an inspector, a shift lead, a quality office and a buyer call things, and the numbers of the refusals.
+#![tactic(auto)]
+
 pub mod class;
 pub mod kind;
 pub mod refusal;

@@ -1,4 +1,6 @@
 // A line over any regime and any book. Setting it and its calls are proved one by one; they become public with the promise over whole lists of calls.
+#![tactic(auto)]
+
 mod both;
 pub mod line;
 mod looking;

@@ -1,4 +1,6 @@
 // Checks the plan texts whose files are named, and prints the rows of each: `plan plans/origin-double.plan`.
+#![tactic(auto)]
+
 use anyhow::anyhow;
 use inspection::status::Status;
 use plan_texts::reading::{PlanError, read_plan};

@@ -1,4 +1,6 @@
 // Tests of the plan book, in a crate of their own.
+#![tactic(auto)]
+
 #[cfg(test)]
 mod fresh;
 #[cfg(test)]

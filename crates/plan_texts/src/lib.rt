@@ -1,4 +1,6 @@
 // Plan books read from text.
+#![tactic(auto)]
+
 mod bounds;
 pub mod reading;
 pub mod row;

@@ -1,4 +1,6 @@
 // Tests of the regimes, in a crate of their own.
+#![tactic(auto)]
+
 #[cfg(test)]
 mod lots;
 #[cfg(test)]

@@ -1,4 +1,6 @@
 // Scores one worksheet that comes on standard input: `score 25 < sheet`, where 25 is the number of units in the sample.
+#![tactic(auto)]
+
 use anyhow::anyhow;
 use std::env;
 use std::io::Read;

@@ -1,4 +1,6 @@
 // Tests of the worksheet, in a crate of their own.
+#![tactic(auto)]
+
 #[cfg(test)]
 mod items;
 #[cfg(test)]

@@ -1,4 +1,6 @@
 // Texts of lines, each line read as its first field and the rest.
+#![tactic(auto)]
+
 ghost use Rattle.std.specs.Prelude.{ℕ, List};
 ghost use Rattle.texts.specs.Pieces.{Whole, Numbered};
 
