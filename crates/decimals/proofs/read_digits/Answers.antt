@@ -12,18 +12,18 @@ returns-then-digit-lt48 c =
       | then-digit-lt48-via-else-digit-lt48+then-digit-gt57 w ↦ omega (arith, digit.1)
     ])
 
-pub overflow-mul-number : goal.overflow-mul-number
-overflow-mul-number c = omega (arith, read_small _ _ _ c.loop-digit.invariant c.loop-digit-test.true c.if-digits-gt9.false)
+pub overflow_mul-number : goal.overflow_mul-number
+overflow_mul-number c = omega (arith, read_small _ _ _ c.loop-digit.invariant c.loop-digit-test.true c.if-digits-gt9.false)
 
-pub overflow-add-number : goal.overflow-add-number
-overflow-add-number c = omega (arith, read_small _ _ _ c.loop-digit.invariant c.loop-digit-test.true c.if-digits-gt9.false)
+pub overflow_add-number : goal.overflow_add-number
+overflow_add-number c = omega (arith, read_small _ _ _ c.loop-digit.invariant c.loop-digit-test.true c.if-digits-gt9.false)
 
 pub loop-digit-preserved : goal.loop-digit-preserved
 loop-digit-preserved c = read_more _ _ _ c.loop-digit-test.true c.if-digit-lt48.false c.if-digit-gt57.false c.loop-digit.invariant
 
 pub returns : goal.returns
-returns c = number_read _ _ _ c.loop-digit.invariant c.loop-digit-test.false (omega (arith, false-eqb _ 0 c.if-is-empty.ensures)) c.if-digits-gt9.false
+returns c = number_read _ _ _ c.loop-digit.invariant c.loop-digit-test.false (omega (arith, false-eqb _ 0 c.if-is_empty.ensures)) c.if-digits-gt9.false
 
-pub returns-then-is-empty : goal.returns-then-is-empty
+pub returns-then-is_empty : goal.returns-then-is_empty
 unfolding numeral
-returns-then-is-empty c = search rules
+returns-then-is_empty c = search rules

@@ -3,8 +3,8 @@ use Rattle.decimals.proofs.Plain.{so_far_more, not_a_digit, not_led, plain_read}
 use Rattle.decimals.proofs.read_number.Goals as goal
 use Rattle.decimals.proofs.read_number.Goals.{then-digit-lt48-via-then-digit-lt48, then-digit-lt48-via-else-digit-lt48+then-digit-gt57}
 
-pub returns-then-not-is-led : goal.returns-then-not-is-led
-returns-then-not-is-led c = not_led _ (sym c.if-not-is-led.ensures)
+pub returns-then-not-is_led : goal.returns-then-not-is_led
+returns-then-not-is_led c = not_led _ (sym c.if-not-is_led.ensures)
 
 pub returns-then-digit-lt48 : goal.returns-then-digit-lt48
 returns-then-digit-lt48 c =
@@ -15,7 +15,7 @@ returns-then-digit-lt48 c =
     ])
 
 pub loop-digit-preserved : goal.loop-digit-preserved
-loop-digit-preserved c = so_far_more _ _ _ _ _ c.loop-digit-test.true c.if-digit-lt48.false c.if-digit-gt57.false c.loop-digit.invariant c.saturating-mul.ensures c.saturating-add-value.ensures
+loop-digit-preserved c = so_far_more _ _ _ _ _ c.loop-digit-test.true c.if-digit-lt48.false c.if-digit-gt57.false c.loop-digit.invariant c.saturating_mul.ensures c.saturating_add-value.ensures
 
 pub returns : goal.returns
-returns c = plain_read _ _ _ c.loop-digit.invariant c.loop-digit-test.false (sym c.if-not-is-led.ensures)
+returns c = plain_read _ _ _ c.loop-digit.invariant c.loop-digit-test.false (sym c.if-not-is_led.ensures)

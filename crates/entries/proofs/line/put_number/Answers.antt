@@ -8,5 +8,5 @@ pub returns : goal.returns
 returns c w long =
     let field = c.args.field.now in
     let short : length (take (length field - 1 - 0) field) ≡ w = simp length-take (omega arith) in
-    field_put w field c.write-digits.new.places c.args.number c.args.end (length field - 1) long (omega arith)
-    (c.write-digits.ensures ∙ ap (λ k. padded k c.args.number) short)
+    field_put w field c.write_digits.new.places c.args.number c.args.end (length field - 1) long (omega arith)
+    (c.write_digits.ensures ∙ ap (λ k. padded k c.args.number) short)

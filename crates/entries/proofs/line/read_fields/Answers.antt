@@ -3,4 +3,4 @@ use Rattle.entries.proofs.Chains.{fields_at}
 use Rattle.entries.proofs.line.read_fields.Goals as goal
 
 pub returns : goal.returns
-returns c = c.read-parts.ensures ∙ fields_at c.args.line.now (omega (arith, ltb-false)) (search rules) (search rules) (search rules)
+returns c = c.read_parts.ensures ∙ fields_at c.args.line.now (omega (arith, ltb-false)) (search rules) (search rules) (search rules)

@@ -10,10 +10,10 @@ loop-item-preserved c =
     let good = c.in-Ok.ensures in
     (tt, tt, sym (going_more (vec_items c.loop-item.running.lots) (vec_items c.loop-item.running.limits) c.loop-item.running.last c.in-Ok.row (shown c.in-Some.item) _ _ _ _ _ c.in-Some.ensures.steps good.0 good.1 put.0 put.1 put.2) ∙ c.loop-item.invariant.2)
 
-pub invariant-of-result : goal.invariant-of-result
-invariant-of-result c =
+pub invariant_of-result : goal.invariant_of-result
+invariant_of-result c =
     let text = c.args.text.now in
     let lots = vec_items c.loop-item.running.lots in
     let limits = vec_items c.loop-item.running.limits in
-    let counts : counts_kept lots limits ≡ true = sym (c.if-not-counts-kept.ensures ∙ (λ i. counts_kept (c.deref.ensures.value i) (c.deref-2.ensures.value i))) in
+    let counts : counts_kept lots limits ≡ true = sym (c.if-not-counts_kept.ensures ∙ (λ i. counts_kept (c.deref.ensures.value i) (c.deref-2.ensures.value i))) in
     (plan_keeps text lots limits (plan_taken text lots limits c.loop-item.running.last _ c.loop-item.invariant.2 c.in-None.ensures.steps.0 counts), tt)

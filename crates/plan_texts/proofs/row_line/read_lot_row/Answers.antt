@@ -3,33 +3,33 @@ use Rattle.plan_texts.specs.RowLines.{lot_row_in}
 use Rattle.plan_texts.proofs.Fields.{more_follows, nothing_follows}
 use Rattle.plan_texts.proofs.row_line.read_lot_row.Goals as goal
 
-pub returns-in-err-lowest-size : goal.returns-in-err-lowest-size
+pub returns-in_err-lowest_size : goal.returns-in_err-lowest_size
 unfolding lot_row_in
-returns-in-err-lowest-size c = search rules
+returns-in_err-lowest_size c = search rules
 
-pub returns-in-err-first-sample : goal.returns-in-err-first-sample
+pub returns-in_err-first_sample : goal.returns-in_err-first_sample
 unfolding lot_row_in
-returns-in-err-first-sample c = search rules
+returns-in_err-first_sample c = search rules
 
-pub returns-in-err-total-sample : goal.returns-in-err-total-sample
+pub returns-in_err-total_sample : goal.returns-in_err-total_sample
 unfolding lot_row_in
-returns-in-err-total-sample c = search rules
+returns-in_err-total_sample c = search rules
 
-pub returns-in-err-critical : goal.returns-in-err-critical
+pub returns-in_err-critical : goal.returns-in_err-critical
 unfolding lot_row_in
-returns-in-err-critical c = search rules
+returns-in_err-critical c = search rules
 
-pub returns-in-err-major : goal.returns-in-err-major
+pub returns-in_err-major : goal.returns-in_err-major
 unfolding lot_row_in
-returns-in-err-major c = search rules
+returns-in_err-major c = search rules
 
-pub returns-in-err-total : goal.returns-in-err-total
+pub returns-in_err-total : goal.returns-in_err-total
 unfolding lot_row_in
-returns-in-err-total c = search rules
+returns-in_err-total c = search rules
 
-pub returns-then-not-is-empty : goal.returns-then-not-is-empty
+pub returns-then-not-is_empty : goal.returns-then-not-is_empty
 unfolding lot_row_in
-returns-then-not-is-empty c = search (rules, more_follows)
+returns-then-not-is_empty c = search (rules, more_follows)
 
 pub returns : goal.returns
 unfolding lot_row_in

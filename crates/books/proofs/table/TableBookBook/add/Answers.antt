@@ -6,7 +6,7 @@ pub returns : goal.returns
 returns c =
     record {
       answer = search rules;
-      entries = (table_added _ c.args.self.now.count _ c.args.self.now.records.now _ c.args.entry refl c.add-record.ensures.count c.add-record.ensures.records).0;
-      room = (table_added _ c.args.self.now.count _ c.args.self.now.records.now _ c.args.entry refl c.add-record.ensures.count c.add-record.ensures.records).1;
-      same = c.add-record.ensures.same;
+      entries = (table_added _ c.args.self.now.count _ c.args.self.now.records.now _ c.args.entry refl c.add_record.ensures.count c.add_record.ensures.records).0;
+      room = (table_added _ c.args.self.now.count _ c.args.self.now.records.now _ c.args.entry refl c.add_record.ensures.count c.add_record.ensures.records).1;
+      same = c.add_record.ensures.same;
     }

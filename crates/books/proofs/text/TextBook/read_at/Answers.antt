@@ -15,5 +15,5 @@ returns c =
     let long = length_stored (cut count (lines_in bytes)) bytes in
     let place = c.args.number - 1 in
     let wide : place * 37 + 37 - place * 37 ≡ 37 = omega arith in
-    ap Some (c.read-line.ensures ∙ ap (λ k. entry_in (take k (drop (place * 37) bytes))) wide ∙ sym (stored_at (cut count (lines_in bytes)) place bytes spoiled (omega (arith, c.requires.some, c.requires.within))))
+    ap Some (c.read_line.ensures ∙ ap (λ k. entry_in (take k (drop (place * 37) bytes))) wide ∙ sym (stored_at (cut count (lines_in bytes)) place bytes spoiled (omega (arith, c.requires.some, c.requires.within))))
     ∙ numbered_place c.args.number (text_entries count bytes) spoiled c.requires.some (omega (arith, c.requires.within))

@@ -6,6 +6,6 @@ use Rattle.books.proofs.text.TextBook.write_at.Goals as goal
 
 pub returns : goal.returns
 returns c =
-    let placed : c.write-line.result ≡ true = search rules in
-    let line : c.write-line.new.place ≡ line_of c.args.entry.now = c.write-line.ensures.bytes ∙ cond-true _ _ _ placed in
-    record { bytes = line_placed c.args.self.now.bytes.now c.write-line.new.place c.args.place c.args.entry.now line; count = refl }
+    let placed : c.write_line.result ≡ true = search rules in
+    let line : c.write_line.new.place ≡ line_of c.args.entry.now = c.write_line.ensures.bytes ∙ cond-true _ _ _ placed in
+    record { bytes = line_placed c.args.self.now.bytes.now c.write_line.new.place c.args.place c.args.entry.now line; count = refl }

@@ -6,7 +6,7 @@ pub returns : goal.returns
 returns c =
     record {
       answer = search rules;
-      entries = (text_added _ c.args.self.now.count _ c.args.self.now.bytes.now _ c.args.entry refl c.add-line.ensures.count c.add-line.ensures.bytes).0;
-      room = (text_added _ c.args.self.now.count _ c.args.self.now.bytes.now _ c.args.entry refl c.add-line.ensures.count c.add-line.ensures.bytes).1;
-      same = c.add-line.ensures.same;
+      entries = (text_added _ c.args.self.now.count _ c.args.self.now.bytes.now _ c.args.entry refl c.add_line.ensures.count c.add_line.ensures.bytes).0;
+      room = (text_added _ c.args.self.now.count _ c.args.self.now.bytes.now _ c.args.entry refl c.add_line.ensures.count c.add_line.ensures.bytes).1;
+      same = c.add_line.ensures.same;
     }

@@ -6,10 +6,10 @@ use Rattle.books.specs.Volumes.{bound, bound_room}
 use Rattle.books.proofs.Keeping.{open_to}
 use Rattle.books.proofs.Binding.{to_first, to_second, second_has}
 use Rattle.books.proofs.volumes.TwoVolumesBook.add.Goals as goal
-use Rattle.books.proofs.volumes.TwoVolumesBook.add.Goals.{else-count-eq0-via-then-count-eq0+else-room-left-gt0, else-count-eq0-via-else-count-eq0}
+use Rattle.books.proofs.volumes.TwoVolumesBook.add.Goals.{else-count-eq0-via-then-count-eq0+else-room_left-gt0, else-count-eq0-via-else-count-eq0}
 
-pub returns-then-room-left-gt0 : goal.returns-then-room-left-gt0
-returns-then-room-left-gt0 g c =
+pub returns-then-room_left-gt0 : goal.returns-then-room_left-gt0
+returns-then-room_left-gt0 g c =
     let volumes = c.args.self.now in
     let entry = c.args.entry in
     let es = g.A.Book.entries volumes.first in
@@ -17,9 +17,9 @@ returns-then-room-left-gt0 g c =
     let r = g.A.Book.room volumes.first in
     let s = g.B.Book.room volumes.second in
     let fine : writable entry ≡ true = search rules in
-    let some : 0 < bound_room es fs r s = omega (arith, c.room_left.ensures, c.if-room-left-eq0.false) in
+    let some : 0 < bound_room es fs r s = omega (arith, c.room_left.ensures, c.if-room_left-eq0.false) in
     let none = open_to (bound_room es fs r s) entry (λ z. omega arith) fine in
-    let has : 0 < r = omega (arith, c.room-left-then-count-eq0.ensures, c.if-room-left-gt0.true) in
+    let has : 0 < r = omega (arith, c.room_left-then-count-eq0.ensures, c.if-room_left-gt0.true) in
     let takes = open_to r entry (λ z. omega arith) fine in
     let done = c.add.ensures in
     let ok : c.add.result ≡ Ok tt = done.answer ∙ ap answered (sym takes) in
@@ -40,10 +40,10 @@ returns-else-count-eq0 g c =
     let r = g.A.Book.room volumes.first in
     let s = g.B.Book.room volumes.second in
     let fine : writable entry ≡ true = search rules in
-    let some : 0 < bound_room es fs r s = omega (arith, c.room_left.ensures, c.if-room-left-eq0.false) in
+    let some : 0 < bound_room es fs r s = omega (arith, c.room_left.ensures, c.if-room_left-eq0.false) in
     let none = open_to (bound_room es fs r s) entry (λ z. omega arith) fine in
     let full : length fs ≡ 0 → r ≡ 0 = λ empty. elim c.else-count-eq0.branch [
-      | else-count-eq0-via-then-count-eq0+else-room-left-gt0 w ↦ omega (arith, w.room-left-then-count-eq0.ensures, w.if-room-left-gt0.false)
+      | else-count-eq0-via-then-count-eq0+else-room_left-gt0 w ↦ omega (arith, w.room_left-then-count-eq0.ensures, w.if-room_left-gt0.false)
       | else-count-eq0-via-else-count-eq0 w ↦ absurd (w.if-count-eq0.false (c.count.ensures ∙ empty))
     ] in
     let has : 0 < s = second_has es fs r s some full in

@@ -11,4 +11,4 @@ returns-then-turns g c =
 pub returns-else-turns : goal.returns-else-turns
 returns-else-turns g c =
     let line = c.args.self.now in
-    noted_kept (g.R.Regime.rules line.regime) line.standing (take c.args.before (g.B.Book.entries line.book)) (is_rejected c.args.verdict) c.args.carried _ c.saturating-add.ensures c.if-turns.ensures
+    noted_kept (g.R.Regime.rules line.regime) line.standing (take c.args.before (g.B.Book.entries line.book)) (is_rejected c.args.verdict) c.args.carried _ c.saturating_add.ensures c.if-turns.ensures

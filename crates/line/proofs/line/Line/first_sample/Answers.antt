@@ -11,19 +11,19 @@ loop-i-init g c =
 pub returns-in-Lot : goal.returns-in-Lot
 returns-in-Lot g c =
     let es = g.B.Book.entries c.args.self.now.book in
-    first_at_lot c.loop-i.i es c.loop-i-test.true (omega (arith, c.min-i.ensures, c.count.ensures, c.loop-i.auto.i)) c.in-Some.entry c.in-Some.ensures (first_back c.args.before es) c.loop-i.invariant c.of-lot.result c.of-lot.ensures c.in-Lot.is
+    first_at_lot c.loop-i.i es c.loop-i-test.true (omega (arith, c.min-i.ensures, c.count.ensures, c.loop-i.auto.i)) c.in-Some.entry c.in-Some.ensures (first_back c.args.before es) c.loop-i.invariant c.of_lot.result c.of_lot.ensures c.in-Lot.is
 
 pub returns-in-SecondSample : goal.returns-in-SecondSample
 returns-in-SecondSample g c =
     let es = g.B.Book.entries c.args.self.now.book in
     first_at_second c.loop-i.i es c.loop-i-test.true (omega (arith, c.min-i.ensures, c.count.ensures, c.loop-i.auto.i)) c.in-Some.entry c.in-Some.ensures (first_back c.args.before es) c.loop-i.invariant c.in-SecondSample.is
 
-pub loop-i-preserved-in-default-kind : goal.loop-i-preserved-in-default-kind
-loop-i-preserved-in-default-kind g c =
+pub loop-i-preserved-in_default-kind : goal.loop-i-preserved-in_default-kind
+loop-i-preserved-in_default-kind g c =
     let es = g.B.Book.entries c.args.self.now.book in
-    first_passed c.loop-i.i es c.loop-i-test.true (omega (arith, c.min-i.ensures, c.count.ensures, c.loop-i.auto.i)) c.in-Some.entry c.in-Some.ensures (first_back c.args.before es) c.loop-i.invariant c.in-default-kind.not-Lot c.in-default-kind.not-SecondSample
+    first_passed c.loop-i.i es c.loop-i-test.true (omega (arith, c.min-i.ensures, c.count.ensures, c.loop-i.auto.i)) c.in-Some.entry c.in-Some.ensures (first_back c.args.before es) c.loop-i.invariant c.in_default-kind.not-Lot c.in_default-kind.not-SecondSample
 
 pub loop-i-preserved : goal.loop-i-preserved
 loop-i-preserved g c =
     let es = g.B.Book.entries c.args.self.now.book in
-    absurd (not_absent c.loop-i.i es c.loop-i-test.true (omega (arith, c.min-i.ensures, c.count.ensures, c.loop-i.auto.i)) c.in-default.ensures)
+    absurd (not_absent c.loop-i.i es c.loop-i-test.true (omega (arith, c.min-i.ensures, c.count.ensures, c.loop-i.auto.i)) c.in_default.ensures)

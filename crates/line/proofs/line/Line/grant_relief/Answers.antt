@@ -32,7 +32,7 @@ returns-in-None g c =
     let done = c.settle.ensures in
     let after = c.settle.new.self in
     record {
-      call = relief_comes rules st es n c.relief-taken-taken.result c.settle.result after.standing (g.B.Book.entries after.book) (g.B.Book.room after.book) done.call (c.in-None.ensures ∙ (λ i. refuses rules sheet_score grant_relief st (all i) (c.room_left.ensures i))) c.relief-taken-taken.ensures;
+      call = relief_comes rules st es n c.relief_taken-taken.result c.settle.result after.standing (g.B.Book.entries after.book) (g.B.Book.room after.book) done.call (c.in-None.ensures ∙ (λ i. refuses rules sheet_score grant_relief st (all i) (c.room_left.ensures i))) c.relief_taken-taken.ensures;
       same = done.same;
       regime = done.regime;
     }

@@ -34,7 +34,7 @@ loop-i-preserved-in-Some g c =
 pub loop-i-preserved : goal.loop-i-preserved
 loop-i-preserved g c =
     let es = g.B.Book.entries c.args.self.now.book in
-    absurd (not_absent c.loop-i.i es c.loop-i-test.true (omega (arith, c.min-i.ensures, c.count.ensures, c.loop-i.auto.i)) c.in-default.ensures)
+    absurd (not_absent c.loop-i.i es c.loop-i-test.true (omega (arith, c.min-i.ensures, c.count.ensures, c.loop-i.auto.i)) c.in_default.ensures)
 
 pub returns-then-seen-most : goal.returns-then-seen-most
 returns-then-seen-most g c =

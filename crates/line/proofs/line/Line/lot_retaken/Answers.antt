@@ -9,4 +9,4 @@ returns-in-Ok g c =
     let es = g.B.Book.entries line.book in
     let few = g.B.Book.few line.book in
     let before = c.args.before in
-    lot_again (g.R.Regime.rules line.regime) line.standing (take before es) c.args.entry before c.in-Ok.units c.lot_taken.result (length-take-le before es (omega (arith, c.requires))) (omega (arith, c.requires, few)) c.in-Ok.ensures c.if-can-show.ensures c.lot_taken.ensures
+    lot_again (g.R.Regime.rules line.regime) line.standing (take before es) c.args.entry before c.in-Ok.units c.lot_taken.result (length-take-le before es (omega (arith, c.requires))) (omega (arith, c.requires, few)) c.in-Ok.ensures c.if-can_show.ensures c.lot_taken.ensures

@@ -9,7 +9,7 @@ returns g c =
     let es = g.B.Book.entries line.book in
     let before = c.args.before in
     record {
-      standing = c.left-by-self.ensures ∙ replayed (g.R.Regime.rules line.regime) line.standing (take before es) c.args.entry (before + 1) c.retaken.result c.unsound-at-bad.result c.if-is-some.ensures (ap (λ n. n + 1) (sym (length-take-le before es (omega (arith, c.requires))))) c.retaken.ensures c.unsound-at-bad.ensures;
+      standing = c.left_by-self.ensures ∙ replayed (g.R.Regime.rules line.regime) line.standing (take before es) c.args.entry (before + 1) c.retaken.result c.unsound_at-bad.result c.if-is_some.ensures (ap (λ n. n + 1) (sym (length-take-le before es (omega (arith, c.requires))))) c.retaken.ensures c.unsound_at-bad.ensures;
       regime = refl;
       book = refl;
     }

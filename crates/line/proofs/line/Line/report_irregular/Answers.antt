@@ -15,7 +15,7 @@ returns-in-None g c =
     let done = c.settle.ensures in
     let after = c.settle.new.self in
     record {
-      call = notice_comes rules st es n c.notice-taken-taken.result c.settle.result after.standing (g.B.Book.entries after.book) (g.B.Book.room after.book) done.call (c.in-None.ensures ∙ ap (λ n. refuses rules sheet_score report_irregular st es n) c.room_left.ensures) c.notice-taken-taken.ensures;
+      call = notice_comes rules st es n c.notice_taken-taken.result c.settle.result after.standing (g.B.Book.entries after.book) (g.B.Book.room after.book) done.call (c.in-None.ensures ∙ ap (λ n. refuses rules sheet_score report_irregular st es n) c.room_left.ensures) c.notice_taken-taken.ensures;
       same = done.same;
       regime = done.regime;
     }

@@ -3,7 +3,7 @@ use Rattle.inspection.specs.declared.status.Status.TheVariants.{Normal}
 use Rattle.runs.specs.Runs.{replay, replay_on}
 use Rattle.line.specs.declared.line.Line.{Line}
 use Rattle.line.proofs.Replayed.{not_missing, replay_more, replay_done}
-use Rattle.line.proofs.line.Line.set.Goals.{in-Some, in-default}
+use Rattle.line.proofs.line.Line.set.Goals.{in-Some, in_default}
 use Rattle.line.proofs.line.Line.set.Goals as goal
 
 pub loop-before-init : goal.loop-before-init
@@ -13,8 +13,8 @@ loop-before-init g c = (
   refl,
 )
 
-pub replay-entry-requires : goal.replay-entry-requires
-replay-entry-requires g c =
+pub replay_entry-requires : goal.replay_entry-requires
+replay_entry-requires g c =
     let same = ap (λ b. length (g.B.Book.entries b)) c.loop-before.invariant.2 in
     omega (arith, same, c.loop-before-test.true, c.count-before-end.ensures)
 
@@ -30,7 +30,7 @@ loop-before-preserved g c =
     let there : i < length es = omega (arith, same, c.loop-before-test.true, c.count-before-end.ensures) in
     elim c.match-entry.branch [
       | in-Some w ↦
-          (let did = w.replay-entry.ensures in
+          (let did = w.replay_entry.ensures in
           let standing = ap (λ (l : Line g.row.R.Denot g.row.B.Denot g.row.R-Carried.Denot). l.standing) w.line-is ∙ did.standing in
           let regime = ap (λ (l : Line g.row.R.Denot g.row.B.Denot g.row.R-Carried.Denot). l.regime) w.line-is ∙ did.regime in
           let book = ap (λ (l : Line g.row.R.Denot g.row.B.Denot g.row.R-Carried.Denot). l.book) w.line-is ∙ did.book in (
@@ -39,7 +39,7 @@ loop-before-preserved g c =
             regime ∙ inv.1,
             book ∙ inv.2,
           ))
-      | in-default w ↦ absurd (not_missing i es there w.in-default.ensures)
+      | in_default w ↦ absurd (not_missing i es there w.in_default.ensures)
     ]
 
 pub returns : goal.returns

@@ -22,11 +22,11 @@ returns-in-Ok g c =
       regime = refl;
     }
 
-pub returns-in-default : goal.returns-in-default
-returns-in-default g c =
+pub returns-in_default : goal.returns-in_default
+returns-in_default g c =
     let line = c.args.self.now in
     record {
-      call = wrote_none c.args.taken line.standing (g.B.Book.entries line.book) (g.B.Book.room line.book) c.in-default.is;
+      call = wrote_none c.args.taken line.standing (g.B.Book.entries line.book) (g.B.Book.room line.book) c.in_default.is;
       same = λ e. never e;
       regime = refl;
     }

@@ -10,7 +10,7 @@ returns-in-Normal-Rejected g c =
     let line = c.args.self.now in
     let rules = g.R.Regime.rules line.regime in
     let xs = articles (take c.args.before (g.B.Book.entries line.book)) in
-    breaks_normal rules.window rules.most_rejected line.standing.spell c.min.result xs line.standing.status (is_rejected c.args.verdict) c.look-back.result c.look-back.ensures c.in-Normal-Rejected.is-0 (ap is_rejected c.in-Normal-Rejected.is-1) c.min.ensures
+    breaks_normal rules.window rules.most_rejected line.standing.spell c.min.result xs line.standing.status (is_rejected c.args.verdict) c.look_back.result c.look_back.ensures c.in-Normal-Rejected.is-0 (ap is_rejected c.in-Normal-Rejected.is-1) c.min.ensures
 
 pub returns-then-seen-ge4 : goal.returns-then-seen-ge4
 returns-then-seen-ge4 g c =
@@ -18,9 +18,9 @@ returns-then-seen-ge4 g c =
     let rules = g.R.Regime.rules line.regime in
     let xs = articles (take c.args.before (g.B.Book.entries line.book)) in
     let other : is_rejected c.args.verdict ≡ false = search rules in
-    let seen = c.look-back-seen.result in
+    let seen = c.look_back-seen.result in
     sym (ap (λ b. b && eqb seen.rejected 0) (le-leb 4 seen.articles c.if-seen-ge4.true))
-    ∙ breaks_tightened rules.window rules.most_rejected line.standing.spell c.min-in-Tightened-default.result xs line.standing.status (is_rejected c.args.verdict) seen c.look-back-seen.ensures c.in-Tightened-default.is-0 other c.min-in-Tightened-default.ensures
+    ∙ breaks_tightened rules.window rules.most_rejected line.standing.spell c.min-in-Tightened-default.result xs line.standing.status (is_rejected c.args.verdict) seen c.look_back-seen.ensures c.in-Tightened-default.is-0 other c.min-in-Tightened-default.ensures
 
 pub returns-else-seen-ge4 : goal.returns-else-seen-ge4
 returns-else-seen-ge4 g c =
@@ -28,17 +28,17 @@ returns-else-seen-ge4 g c =
     let rules = g.R.Regime.rules line.regime in
     let xs = articles (take c.args.before (g.B.Book.entries line.book)) in
     let other : is_rejected c.args.verdict ≡ false = search rules in
-    let seen = c.look-back-seen.result in
+    let seen = c.look_back-seen.result in
     let few = lt-leb 4 seen.articles c.if-seen-ge4.false in
     few
     ∙ sym (ap (λ b. b && eqb seen.rejected 0) few)
-    ∙ breaks_tightened rules.window rules.most_rejected line.standing.spell c.min-in-Tightened-default.result xs line.standing.status (is_rejected c.args.verdict) seen c.look-back-seen.ensures c.in-Tightened-default.is-0 other c.min-in-Tightened-default.ensures
+    ∙ breaks_tightened rules.window rules.most_rejected line.standing.spell c.min-in-Tightened-default.result xs line.standing.status (is_rejected c.args.verdict) seen c.look_back-seen.ensures c.in-Tightened-default.is-0 other c.min-in-Tightened-default.ensures
 
 pub returns-in-Reduced-Rejected : goal.returns-in-Reduced-Rejected
 returns-in-Reduced-Rejected g c =
     let line = c.args.self.now in
     let rules = g.R.Regime.rules line.regime in
     let xs = articles (take c.args.before (g.B.Book.entries line.book)) in
-    let seen = c.look-back-in-Reduced-Rejected.result in
+    let seen = c.look_back-in-Reduced-Rejected.result in
     ap (λ k. leb k seen.rejected) c.most_rejected.ensures
-    ∙ breaks_reduced rules.window rules.most_rejected line.standing.spell c.min-in-Reduced-Rejected.result xs line.standing.status (is_rejected c.args.verdict) seen c.look-back-in-Reduced-Rejected.ensures c.in-Reduced-Rejected.is-0 (ap is_rejected c.in-Reduced-Rejected.is-1) (omega (arith, c.min-in-Reduced-Rejected.ensures, c.saturating-sub-others.ensures, c.window-length.ensures))
+    ∙ breaks_reduced rules.window rules.most_rejected line.standing.spell c.min-in-Reduced-Rejected.result xs line.standing.status (is_rejected c.args.verdict) seen c.look_back-in-Reduced-Rejected.ensures c.in-Reduced-Rejected.is-0 (ap is_rejected c.in-Reduced-Rejected.is-1) (omega (arith, c.min-in-Reduced-Rejected.ensures, c.saturating_sub-others.ensures, c.window_length.ensures))

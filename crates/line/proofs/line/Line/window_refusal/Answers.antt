@@ -9,4 +9,4 @@ returns g c =
     let line = c.args.self.now in
     let xs = articles (take c.args.before (g.B.Book.entries line.book)) in
     c.seen_refusal.ensures
-    ∙ ap (seen_refusal (g.R.Regime.rules line.regime)) (c.look-back.ensures ∙ ap (λ n. seen_of (last_articles n xs)) (omega (arith, c.min-most.ensures, c.window-length.ensures)) ∙ ap seen_of (sym (last_last _ _ xs)))
+    ∙ ap (seen_refusal (g.R.Regime.rules line.regime)) (c.look_back.ensures ∙ ap (λ n. seen_of (last_articles n xs)) (omega (arith, c.min-most.ensures, c.window_length.ensures)) ∙ ap seen_of (sym (last_last _ _ xs)))

@@ -11,8 +11,8 @@ use Rattle.line.proofs.Settling.{comes_err, never}
 use Rattle.line.proofs.Sheets.{lot_unsampled, lot_comes}
 use Rattle.line.proofs.lots.«Line+Stationary+B».enter_lot.Goals as goal
 
-pub returns-in-err-units : goal.returns-in-err-units
-returns-in-err-units g c =
+pub returns-in_err-units : goal.returns-in_err-units
+returns-in_err-units g c =
     let line = c.args.self.now in
     let rules = plan_rules line.regime.plan in
     let st = line.standing in
@@ -20,25 +20,25 @@ returns-in-err-units g c =
     let n = g.B.Book.room line.book in
     let sheet = c.args.sheet.now in
     let call = enter_lot c.args.size sheet in
-    let x = c.in-err-units.field-0.0 in
-    let err = err_from_is_err_and c.from-residual.result c.from-residual.ensures.1 in
+    let x = c.in_err-units.field-0.0 in
+    let err = err_from_is_err_and c.from_residual.result c.from_residual.ensures.1 in
     record {
-      call = comes_err (takes rules sheet_score call st es) st es n (refuses rules sheet_score call st es n) x (lot_answer c.from-residual.result) (ap lot_answer err.1 ∙ ap {B = Result Reply Refusal} (λ t. Err t) err.2) (lot_unsampled rules st es n sheet c.room_left.result c.room_left.ensures c.args.size x c.in-err-units.ensures);
+      call = comes_err (takes rules sheet_score call st es) st es n (refuses rules sheet_score call st es n) x (lot_answer c.from_residual.result) (ap lot_answer err.1 ∙ ap {B = Result Reply Refusal} (λ t. Err t) err.2) (lot_unsampled rules st es n sheet c.room_left.result c.room_left.ensures c.args.size x c.in_err-units.ensures);
       same = λ _. refl;
       regime = refl;
       slip = subst SlipGiven (sym err.1) tt;
     }
 
-pub returns-in-err-reply : goal.returns-in-err-reply
-returns-in-err-reply g c =
+pub returns-in_err-reply : goal.returns-in_err-reply
+returns-in_err-reply g c =
     let line = c.args.self.now in
     let es = g.B.Book.entries line.book in
     let n = g.B.Book.room line.book in
-    let taken = c.lot-taken-taken in
-    let done = c.in-err-reply.ensures in
+    let taken = c.lot_taken-taken in
+    let done = c.in_err-reply.ensures in
     let after = c.settle.new.self in
-    let come = lot_comes (plan_rules line.regime.plan) (writes_writable.1 line.regime.plan) line.standing es n c.args.sheet.now taken.result (Err c.in-err-reply.field-0.0) after.standing (g.B.Book.entries after.book) (g.B.Book.room after.book) done.call c.count.result c.count.ensures c.room_left.result c.room_left.ensures c.in-ok-units.units c.in-ok-tally.tally c.in-ok-tally.ensures.answer c.args.size tt (g.B.Book.few line.book) c.in-ok-units.ensures taken.ensures in
-    let answer = c.from-residual-in-err-reply in
+    let come = lot_comes (plan_rules line.regime.plan) (writes_writable.1 line.regime.plan) line.standing es n c.args.sheet.now taken.result (Err c.in_err-reply.field-0.0) after.standing (g.B.Book.entries after.book) (g.B.Book.room after.book) done.call c.count.result c.count.ensures c.room_left.result c.room_left.ensures c.in_ok-units.units c.in_ok-tally.tally c.in_ok-tally.ensures.answer c.args.size tt (g.B.Book.few line.book) c.in_ok-units.ensures taken.ensures in
+    let answer = c.from_residual-in_err-reply in
     let err = err_from_is_err_and answer.result answer.ensures.1 in
     record {
       call = (ap lot_answer err.1 ∙ ap {B = Result Reply Refusal} (λ t. Err t) err.2 ∙ come.0, come.1, come.2, come.3);
@@ -52,11 +52,11 @@ returns-in-Some g c =
     let line = c.args.self.now in
     let es = g.B.Book.entries line.book in
     let n = g.B.Book.room line.book in
-    let taken = c.lot-taken-taken in
-    let done = c.in-ok-reply.ensures in
+    let taken = c.lot_taken-taken in
+    let done = c.in_ok-reply.ensures in
     let after = c.settle.new.self in
     record {
-      call = lot_comes (plan_rules line.regime.plan) (writes_writable.1 line.regime.plan) line.standing es n c.args.sheet.now taken.result (Ok c.in-ok-reply.reply) after.standing (g.B.Book.entries after.book) (g.B.Book.room after.book) done.call c.count.result c.count.ensures c.room_left.result c.room_left.ensures c.in-ok-units.units c.in-ok-tally.tally c.in-ok-tally.ensures.answer c.args.size tt (g.B.Book.few line.book) c.in-ok-units.ensures taken.ensures;
+      call = lot_comes (plan_rules line.regime.plan) (writes_writable.1 line.regime.plan) line.standing es n c.args.sheet.now taken.result (Ok c.in_ok-reply.reply) after.standing (g.B.Book.entries after.book) (g.B.Book.room after.book) done.call c.count.result c.count.ensures c.room_left.result c.room_left.ensures c.in_ok-units.units c.in_ok-tally.tally c.in_ok-tally.ensures.answer c.args.size tt (g.B.Book.few line.book) c.in_ok-units.ensures taken.ensures;
       same = λ e. never e;
       regime = done.regime;
       slip = ap {B = Option ℕ} (λ k. Some k) c.of.ensures ∙ sym c.in-Some.is;
@@ -67,11 +67,11 @@ returns-in-None g c =
     let line = c.args.self.now in
     let es = g.B.Book.entries line.book in
     let n = g.B.Book.room line.book in
-    let taken = c.lot-taken-taken in
-    let done = c.in-ok-reply.ensures in
+    let taken = c.lot_taken-taken in
+    let done = c.in_ok-reply.ensures in
     let after = c.settle.new.self in
     record {
-      call = lot_comes (plan_rules line.regime.plan) (writes_writable.1 line.regime.plan) line.standing es n c.args.sheet.now taken.result (Ok c.in-ok-reply.reply) after.standing (g.B.Book.entries after.book) (g.B.Book.room after.book) done.call c.count.result c.count.ensures c.room_left.result c.room_left.ensures c.in-ok-units.units c.in-ok-tally.tally c.in-ok-tally.ensures.answer c.args.size tt (g.B.Book.few line.book) c.in-ok-units.ensures taken.ensures;
+      call = lot_comes (plan_rules line.regime.plan) (writes_writable.1 line.regime.plan) line.standing es n c.args.sheet.now taken.result (Ok c.in_ok-reply.reply) after.standing (g.B.Book.entries after.book) (g.B.Book.room after.book) done.call c.count.result c.count.ensures c.room_left.result c.room_left.ensures c.in_ok-units.units c.in_ok-tally.tally c.in_ok-tally.ensures.answer c.args.size tt (g.B.Book.few line.book) c.in_ok-units.ensures taken.ensures;
       same = λ e. never e;
       regime = done.regime;
       slip = sym c.in-None.is;

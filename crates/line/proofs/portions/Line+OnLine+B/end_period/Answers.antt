@@ -15,7 +15,7 @@ returns-in-None g c =
     let done = c.settle.ensures in
     let after = c.settle.new.self in
     record {
-      call = end_comes on_line_rules st es n c.end-taken-taken.result c.settle.result after.standing (g.B.Book.entries after.book) (g.B.Book.room after.book) done.call (c.in-None.ensures ∙ ap (λ n. refuses on_line_rules sheet_score end_period st es n) c.room_left.ensures) c.end-taken-taken.ensures;
+      call = end_comes on_line_rules st es n c.end_taken-taken.result c.settle.result after.standing (g.B.Book.entries after.book) (g.B.Book.room after.book) done.call (c.in-None.ensures ∙ ap (λ n. refuses on_line_rules sheet_score end_period st es n) c.room_left.ensures) c.end_taken-taken.ensures;
       same = done.same;
       regime = done.regime;
     }

@@ -15,7 +15,7 @@ returns-in-None g c =
     let done = c.settle.ensures in
     let after = c.settle.new.self in
     record {
-      call = open_comes on_line_rules st es n c.open-taken-taken.result c.settle.result after.standing (g.B.Book.entries after.book) (g.B.Book.room after.book) done.call (c.in-None.ensures ∙ ap (λ n. refuses on_line_rules sheet_score open_period st es n) c.room_left.ensures) c.open-taken-taken.ensures;
+      call = open_comes on_line_rules st es n c.open_taken-taken.result c.settle.result after.standing (g.B.Book.entries after.book) (g.B.Book.room after.book) done.call (c.in-None.ensures ∙ ap (λ n. refuses on_line_rules sheet_score open_period st es n) c.room_left.ensures) c.open_taken-taken.ensures;
       same = done.same;
       regime = done.regime;
     }

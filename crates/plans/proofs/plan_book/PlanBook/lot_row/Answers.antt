@@ -6,8 +6,8 @@ use Rattle.plans.proofs.plan_book.PlanBook.lot_row.Goals as goal
 
 pub loop-i-preserved : goal.loop-i-preserved
 loop-i-preserved c =
-    found_more (row_fits c.args.status c.args.size) (vec_items c.args.self.now.lots) c.loop-i.i c.index.result.now c.fits-lot.result c.loop-i.found c.later-found.result
-    (omega (arith, c.len-i-end.ensures, c.args.self.now.lots.ok.0)) c.index.ensures c.fits-lot.ensures c.loop-i.invariant c.later-found.ensures
+    found_more (row_fits c.args.status c.args.size) (vec_items c.args.self.now.lots) c.loop-i.i c.index.result.now c.fits_lot.result c.loop-i.found c.later-found.result
+    (omega (arith, c.len-i-end.ensures, c.args.self.now.lots.ok.0)) c.index.ensures c.fits_lot.ensures c.loop-i.invariant c.later-found.ensures
 
 pub returns : goal.returns
 returns c =

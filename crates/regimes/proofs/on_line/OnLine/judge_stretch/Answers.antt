@@ -9,7 +9,7 @@ use Rattle.regimes.proofs.on_line.OnLine.judge_stretch.Goals as goal
 pub loop-tally-preserved : goal.loop-tally-preserved
 loop-tally-preserved c =
     stretch_more c.args.status c.args.tallies.now (verdicts_of c.args.status c.args.tallies.now) c.loop-tally.tally-index _ c.loop-tally.values c.judge-verdict.result
-    (vec_items c.loop-tally.verdicts) (vec_items c.push.new.self) c.loop-tally-test.true c.judge-verdict.ensures c.in-ok-push.ensures.items c.loop-tally.invariant
+    (vec_items c.loop-tally.verdicts) (vec_items c.push.new.self) c.loop-tally-test.true c.judge-verdict.ensures c.in_ok-push.ensures.items c.loop-tally.invariant
 
 pub returns : goal.returns
 returns c =
