@@ -5,7 +5,7 @@ use Rattle.plan_texts.proofs.reading.rows_of.Goals as goal
 use Rattle.plan_texts.proofs.reading.rows_of.Goals.{then-is_of, else-is_of}
 
 pub overflow_add-rows : goal.overflow_add-rows
-overflow_add-rows c = omega (arith, count_few (λ r. same_status r.status c.args.status) c.args.lots.now c.loop-row.row-index c.loop-row.rows c.loop-row-test.true c.loop-row.invariant, c.well-formed.0.0)
+overflow_add-rows c = omega (arith, count_few (λ r. same_status r.status c.args.status) c.args.lots.now c.loop-row.row-index c.loop-row.rows c.loop-row-test.true c.loop-row.invariant, c.well_formed.0.0)
 
 pub loop-row-preserved : goal.loop-row-preserved
 loop-row-preserved c =

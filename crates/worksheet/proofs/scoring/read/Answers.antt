@@ -6,7 +6,7 @@ use Rattle.worksheet.proofs.scoring.read.Goals as goal
 
 pub loop-item-init : goal.loop-item-init
 loop-item-init c =
-    let all = ap to_come c.into_iter-item-iterator.ensures.into_iter-gives ∙ c.new-item-items.ensures in
+    let all = ap to_come c.into_iter-item-iterator.ensures.into_iter_gives ∙ c.new-item-items.ensures in
     (tt, tt, refl, ap (going c.args.units start) all ∙ goes_whole c.args.units (pieces c.args.sheet.now), omega (arith, ap length all))
 
 pub loop-item-preserved : goal.loop-item-preserved
@@ -17,4 +17,4 @@ loop-item-preserved c =
     (tt, tt, on.0, on.1, omega (arith, ap length split, c.loop-item.invariant.4))
 
 pub overflow_add-lines : goal.overflow_add-lines
-overflow_add-lines c = omega (arith, ap length c.in-Some.ensures.steps, c.loop-item.invariant.4, few_pieces c.args.sheet.now, c.well-formed.0.0)
+overflow_add-lines c = omega (arith, ap length c.in-Some.ensures.steps, c.loop-item.invariant.4, few_pieces c.args.sheet.now, c.well_formed.0.0)
