@@ -16,4 +16,4 @@ invariant_of-result c =
     let lots = vec_items c.loop-item.running.lots in
     let limits = vec_items c.loop-item.running.limits in
     let counts : counts_kept lots limits ≡ true = sym (c.if-not-counts_kept.ensures ∙ (λ i. counts_kept (c.deref.ensures.value i) (c.deref-2.ensures.value i))) in
-    (plan_keeps text lots limits (plan_taken text lots limits c.loop-item.running.last _ c.loop-item.invariant.2 c.in-None.ensures.steps.0 counts), tt)
+    record { kept = plan_keeps text lots limits (plan_taken text lots limits c.loop-item.running.last _ c.loop-item.invariant.2 c.in-None.ensures.steps.0 counts) }
