@@ -24,10 +24,10 @@ fn sample_units(rt: &HostRuntime) -> anyhow::Result<u32> {
             1 => {
                 units = match arg.as_str().parse::<u32>() {
                     Ok(units) => units,
-                    Err(_) => return Err(USAGE.into()),
+                    Err(_) => return Err(anyhow!("{USAGE}")),
                 }
             }
-            _ => return Err(USAGE.into()),
+            _ => return Err(anyhow!("{USAGE}")),
         }
     }
     Ok(units)
