@@ -1,8 +1,8 @@
 -- What adding leaves in the table book and in the text book.
-use Rattle.std.proofs.Common.{◌≡◌, ℕ, zero, suc, ◌+◌, ◌-◌, ◌*◌, ◌/◌, ◌<◌, ◌≤◌, min, Bool, true, false, cond, eqb, List, [], ◌∷◌, ◌++◌, map, length, get_or, take, drop, set, Some, None, Option, sym, refl, ap, ◌∙◌, subst, append_assoc, mod-lt, add-one, arith}
+use Rattle.std.proofs.Common.{◌≡◌, ℕ, zero, suc, ◌+◌, ◌-◌, ◌*◌, ◌/◌, ◌<◌, ◌≤◌, Bool, true, false, cond, eqb, List, [], ◌∷◌, ◌++◌, map, length, get_or, take, drop, Some, None, Option, sym, refl, ap, ◌∙◌, mod-lt, arith}
 use native.Mathlib.Nat.{div-add-mod}
 use borrow.Rule.Slice.PartMut.{put_mid}
-use Rattle.std.proofs.lemmas.List.{length-set, length-take, length-take-le, length-map, length-append, length-drop, take_more_set, take-append-drop, take-append-le, drop-append-le, take_at, drop_at, drop-drop, map_push, get_or-map, get_or-take}
+use Rattle.std.proofs.lemmas.List.{length-set, length-take-le, length-append, length-drop, take_more_set, take-append-drop, take-append-le, drop-append-le, take_at, drop_at, drop-drop, map_push, get_or-map, get_or-take}
 use Rattle.std.proofs.lemmas.Bool.{eqb-false, eq-eqb, ne_eqb, cond-true, cond-false}
 use Rattle.inspection.specs.declared.refusal.Refusal.{Refusal}
 use Rattle.inspection.specs.declared.refusal.Refusal.TheVariants.{NoRoom, EntryUnwritable}
@@ -11,7 +11,7 @@ use Rattle.entries.specs.Entries.{writable, spoiled, or_spoiled}
 use Rattle.entries.specs.Lines.{line_of, entry_in}
 use Rattle.entries.proofs.Backs.{reads_back, long}
 use Rattle.books.specs.Books.{refusal, put, left}
-use Rattle.books.specs.Stores.{usable, cut, spare, table_entries, lines_in, stored, text_entries, record_after, line_after, count_after}
+use Rattle.books.specs.Stores.{cut, spare, table_entries, lines_in, stored, text_entries, record_after, line_after, count_after}
 
 never : {X : Type 0} {P : Type 0} {x : X} → Some x ≡ None → P
 never e = let z : ◌≡◌ {A = ℕ} 0 1 = cc in absurd (omega arith)

@@ -1,10 +1,10 @@
 -- Every book's entries and room together are at most 9,999,999.
-use Rattle.std.specs.Prelude.{◌≡◌, ℕ, zero, suc, ◌+◌, ◌-◌, ◌≤◌, min, cond, List, ◌++◌, map, length, take, drop, ◌==◌, refl}
+use Rattle.std.specs.Prelude.{◌≡◌, ℕ, zero, suc, ◌+◌, ◌-◌, ◌≤◌, min, cond, List, ◌++◌, length, take, drop, ◌==◌, refl}
 use Rattle.std.proofs.Common.{ap, ◌∙◌, arith, length-take, length-append, length-take-le}
 use Rattle.std.proofs.lemmas.List.{length-map}
 use Rattle.entries.specs.declared.entry.Entry.{Entry}
 use Rattle.entries.specs.Entries.{or_spoiled}
-use Rattle.books.specs.Stores.{usable, cut, spare, table_entries, lines_in, stored, text_entries}
+use Rattle.books.specs.Stores.{cut, spare, table_entries, lines_in, stored, text_entries}
 use Rattle.books.specs.Volumes.{bound, bound_room}
 
 pub length_table : (count : ℕ) (rs : List Entry) → length (table_entries count rs) ≡ cut count (length rs)

@@ -1,7 +1,7 @@
 -- Lines read back, and nothing else reads as an entry.
-use Rattle.std.proofs.Common.{◌≡◌, ℕ, zero, suc, ◌+◌, ◌-◌, ◌^◌, ◌<◌, ◌≤◌, Bool, true, false, cond, ◌&&◌, eqb, ltb, leb, List, [], ◌∷◌, ◌++◌, length, get_or, take, drop, Some, None, Option, sym, refl, ap, ◌∙◌, subst, append_assoc, add-one, arith}
+use Rattle.std.proofs.Common.{◌≡◌, ℕ, ◌+◌, ◌^◌, ◌<◌, ◌≤◌, Bool, true, false, cond, ◌&&◌, eqb, ltb, leb, List, [], ◌∷◌, ◌++◌, length, get_or, take, drop, Some, None, Option, sym, refl, ap, ◌∙◌, subst, append_assoc, arith}
 use Rattle.std.proofs.lemmas.List.{append-nil, length-append, length-take-le, take_at, drop_at, get_or_at, take-append-drop, drop_more, drop-drop}
-use Rattle.std.proofs.lemmas.Bool.{and_from, and_parts, lt-ltb, ltb-true, eq-eqb, eqb-true, leb-true, cond-true, cond-false, both_ways}
+use Rattle.std.proofs.lemmas.Bool.{and_from, and_parts, lt-ltb, ltb-true, eq-eqb, eqb-true, leb-true, cond-true, both_ways}
 use Rattle.decimals.specs.Digits.{numeral, padded}
 use Rattle.decimals.proofs.Writing.{length_padded, written_back, read_back}
 use Rattle.inspection.specs.Letters.{kind_letter, kind_of, status_letter, status_of, verdict_letter, verdict_of}
@@ -15,8 +15,8 @@ use Rattle.inspection.specs.declared.verdict.Verdict.TheVariants.{Accepted, Reje
 use Rattle.inspection.specs.declared.tally.Tally.{Tally}
 use Rattle.entries.specs.declared.entry.Entry.{Entry}
 use Rattle.entries.specs.declared.line.Numbers.{Numbers}
-use Rattle.entries.specs.Entries.{no_numbers, fits_fields, no_verdict, writable_as, writable, spoiled, or_spoiled}
-use Rattle.entries.specs.Lines.{number_field, numbers_text, letters_text, line_of, Read, then, closed_by, with_rest, number_at, ended, numbers_in, joint, tabs, fields_in, read_as, entry_in, Long, ReadsBack, NoOther, ElseSpoiled}
+use Rattle.entries.specs.Entries.{no_numbers, fits_fields, writable_as, writable, spoiled}
+use Rattle.entries.specs.Lines.{number_field, numbers_text, line_of, Read, then, closed_by, with_rest, number_at, ended, numbers_in, joint, tabs, fields_in, read_as, Long, ReadsBack, NoOther, ElseSpoiled}
 use Rattle.entries.proofs.Chains.{chained}
 
 never : {X : Type 0} {P : Type 0} {x : X} → None ≡ Some x → P

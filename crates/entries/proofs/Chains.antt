@@ -1,12 +1,11 @@
 -- The five numbers of a line, one after another.
-use Rattle.std.proofs.Common.{◌≡◌, ℕ, zero, suc, ◌+◌, ◌-◌, ◌<◌, ◌≤◌, Bool, true, false, cond, ◌&&◌, eqb, List, [], ◌∷◌, ◌++◌, length, get_or, take, drop, Some, None, Option, sym, refl, ap, ◌∙◌, subst, arith}
+use Rattle.std.proofs.Common.{◌≡◌, ℕ, ◌+◌, ◌-◌, ◌<◌, ◌≤◌, true, ◌&&◌, eqb, List, [], ◌∷◌, length, get_or, take, drop, Some, None, sym, refl, ap, ◌∙◌, arith}
 use native.Mathlib.Nat.{sub-zero}
 use Rattle.std.proofs.lemmas.List.{take_rest}
 use Rattle.std.proofs.lemmas.Bool.{and_from, lt-ltb, eq-eqb, cond-true}
 use Rattle.decimals.specs.Digits.{numeral}
 use Rattle.inspection.specs.Letters.{kind_of, status_of, verdict_of}
-use Rattle.entries.specs.declared.line.Numbers.{Numbers}
-use Rattle.entries.specs.Lines.{Read, then, closed_by, with_rest, number_at, ended, numbers_in, joint, tabs, fields_in}
+use Rattle.entries.specs.Lines.{then, closed_by, with_rest, number_at, ended, numbers_in, joint, tabs, fields_in}
 
 pub taken : (w end n : ℕ) (bs : List ℕ) → w < length bs → get_or bs w 0 ≡ end → Some n ≡ numeral (take (w - 0) bs) → Some (n, take (length bs - (w + 1)) (drop (w + 1) bs)) ≡ number_at w end bs
 taken w end n bs lt at is =

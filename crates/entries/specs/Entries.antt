@@ -1,5 +1,5 @@
 -- Which entries can stand in a book.
-use Rattle.std.specs.Prelude.{ℕ, Bool, true, false, cond, ◌&&◌, ◌==◌, nat_le}
+use Rattle.std.specs.Prelude.{Bool, true, false, cond, ◌&&◌, ◌==◌, nat_le}
 use Rattle.inspection.specs.declared.kind.Kind.{Kind}
 use Rattle.inspection.specs.declared.kind.Kind.TheVariants.{PeriodOpened, Portion, PeriodEnded, Lot, SecondSample, Relief, IrregularNotice, Spoiled}
 use Rattle.inspection.specs.declared.status.Status.TheVariants.{Normal}

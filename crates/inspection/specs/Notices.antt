@@ -1,5 +1,5 @@
 -- What each refusal is told as: its fixed number, and the place that it names.
-use Rattle.std.specs.Prelude.{◌≡◌, ℕ, Some, None, Option}
+use Rattle.std.specs.Prelude.{◌≡◌, ℕ, Some, None}
 use Rattle.inspection.specs.declared.refusal.Notice.{Notice}
 use Rattle.inspection.specs.declared.refusal.Place.{Place}
 use Rattle.inspection.specs.declared.refusal.Place.TheVariants.{SheetLine, BookEntry, PlanLine}

@@ -1,5 +1,5 @@
 -- What a call comes to, in the steps that the code takes.
-use Rattle.std.specs.Prelude.{◌≡◌, ℕ, Bool, true, false, cond, not, List, [], ◌∷◌, ◌++◌, is_some, Some, None, Ok, Err, Option, Result, nat_le}
+use Rattle.std.specs.Prelude.{◌≡◌, ℕ, Bool, false, cond, not, List, [], ◌∷◌, is_some, Some, None, Ok, Err, Option, Result, nat_le}
 use Rattle.inspection.specs.declared.refusal.Refusal.{Refusal}
 use Rattle.inspection.specs.declared.refusal.Refusal.TheVariants.{NoPeriodOpen, LotAwaits, NoLotAwaits, LotSizeOutOfRange, NoRoom, BookUnsound}
 use Rattle.inspection.specs.declared.kind.Kind.{Kind}

@@ -1,5 +1,5 @@
 -- Fields of a plan line, one after another.
-use Rattle.std.proofs.Common.{◌≡◌, ℕ, suc, ◌+◌, ◌-◌, ◌≤◌, eqb, List, [], ◌∷◌, length, get_or, take, drop, Some, None, Option, sym, refl, ap, ◌∙◌, add-one, arith}
+use Rattle.std.proofs.Common.{◌≡◌, ℕ, ◌+◌, ◌-◌, ◌≤◌, eqb, List, [], ◌∷◌, length, get_or, take, drop, Some, None, Option, sym, refl, ap, ◌∙◌, add-one, arith}
 use native.Mathlib.Nat.{sub-zero}
 use Rattle.std.proofs.lemmas.List.{take_rest}
 use Rattle.std.proofs.lemmas.Bool.{eq-eqb, cond-true}
@@ -7,11 +7,10 @@ use Rattle.std.specs.Option.{option_map}
 use Rattle.decimals.specs.Digits.{number, clipped}
 use Rattle.inspection.specs.Letters.{status_of}
 use Rattle.inspection.specs.declared.status.Status.{Status}
-use Rattle.texts.specs.Texts.{Free, FirstAt, parted_by}
+use Rattle.texts.specs.Texts.{Free, FirstAt}
 use Rattle.texts.proofs.Cuts.{parted_cut, parted_none}
-use Rattle.plans.specs.declared.rows.ClassNumbers.{ClassNumbers}
 use Rattle.plans.specs.declared.rows.LotRow.{LotRow}
-use Rattle.plan_texts.specs.RowLines.{Taken, with_rest, number_before, number_to, class_to, at_end, lot_row_in, of_status, lot_in}
+use Rattle.plan_texts.specs.RowLines.{with_rest, number_before, number_to, at_end, lot_row_in, of_status, lot_in}
 
 pub no_end : (x : ℕ) (bs : List ℕ) → Free x (length bs) bs → number_to x bs ≡ None
 unfolding number_to

@@ -1,7 +1,7 @@
 -- Reading a plan text row by row, and what a text that is taken keeps.
-use Rattle.std.proofs.Common.{◌≡◌, ℕ, Bool, true, false, cond, ◌&&◌, List, [], ◌∷◌, ◌++◌, Some, None, Ok, Err, Option, Result, sym, refl, ap, ◌∙◌, subst, arith}
+use Rattle.std.proofs.Common.{◌≡◌, ℕ, Bool, true, false, cond, List, [], ◌∷◌, ◌++◌, Some, None, Ok, Err, Option, Result, sym, refl, ap, ◌∙◌, subst, arith}
 use Rattle.std.proofs.lemmas.List.{append_assoc, append-nil}
-use Rattle.std.proofs.lemmas.Bool.{and_from, cond-true, cond-false}
+use Rattle.std.proofs.lemmas.Bool.{and_from}
 use Rattle.inspection.specs.declared.refusal.Refusal.{Refusal}
 use Rattle.inspection.specs.declared.refusal.Refusal.TheVariants.{PlanBoundBroken, PlanRowOutOfOrder, PlanRowCountsWrong}
 use Rattle.texts.specs.Pieces.{Piece, number_of, pieces}
@@ -10,7 +10,7 @@ use Rattle.plans.specs.declared.rows.LimitRow.{LimitRow}
 use Rattle.plan_texts.specs.declared.row.Row.{Row}
 use Rattle.plan_texts.specs.declared.row.Row.TheVariants.{Lot, Limit}
 use Rattle.plans.specs.Plans.{lot_row_kept, limit_row_kept, lot_row_follows, limit_row_follows, each, in_order, counts_kept, keeps}
-use Rattle.plan_texts.specs.PlanTexts.{Rows, row_kept, follows_after, row_follows, fault_of, fault, or_else, first_bad, lot_said, limit_said, lots_said, limits_said, counted, unless, plan_of}
+use Rattle.plan_texts.specs.PlanTexts.{Rows, row_kept, follows_after, fault_of, fault, or_else, first_bad, lot_said, limit_said, lots_said, limits_said, counted, unless, plan_of}
 use Rattle.plan_texts.specs.Putting.{lot_of, limit_of}
 use Rattle.plan_texts.specs.RowLines.{row_of}
 

@@ -1,5 +1,5 @@
 -- What a line of a plan text says: fields parted by tabs, a line feed last.
-use Rattle.std.specs.Prelude.{ℕ, Bool, true, false, cond, List, [], ◌∷◌, Some, None, Option, ◌==◌}
+use Rattle.std.specs.Prelude.{ℕ, Bool, false, cond, List, [], ◌∷◌, Some, None, Option, ◌==◌}
 use Rattle.decimals.specs.Digits.{number, clipped}
 use Rattle.inspection.specs.Letters.{status_of}
 use Rattle.inspection.specs.declared.status.Status.{Status}

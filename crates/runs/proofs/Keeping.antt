@@ -1,11 +1,10 @@
 -- How a line's standing is read off the history of its calls, and what each step keeps of that, for any kind of carried numbers.
-use Rattle.std.proofs.Common.{◌≡◌, ℕ, ◌+◌, ◌-◌, ◌<◌, ◌≤◌, Bool, true, false, cond, not, ltb, leb, List, [], ◌∷◌, ◌++◌, length, is_some, Some, None, Ok, Err, Option, Result, sym, refl, ap, ◌∙◌, subst, ap₂, subst₂, arith}
+use Rattle.std.proofs.Common.{◌≡◌, ℕ, ◌+◌, ◌<◌, ◌≤◌, Bool, true, false, cond, not, ltb, leb, List, [], ◌∷◌, ◌++◌, length, is_some, Some, None, Ok, Err, Option, Result, sym, refl, ap, ◌∙◌, subst, ap₂, subst₂, arith}
 use Rattle.std.proofs.lemmas.List.{append-nil, length-append}
 use Rattle.std.proofs.lemmas.List.Prefix.{end_rest}
 use Rattle.inspection.specs.declared.status.Status.{Status}
 use Rattle.inspection.specs.declared.status.Status.TheVariants.{Normal, Reduced}
 use Rattle.inspection.specs.declared.verdict.Verdict.TheVariants.{Undecided}
-use Rattle.inspection.specs.declared.kind.Kind.{Kind}
 use Rattle.inspection.specs.declared.kind.Kind.TheVariants as kind
 use Rattle.inspection.specs.declared.tally.Tally.{Tally}
 use Rattle.entries.specs.declared.entry.Entry.{Entry}

@@ -1,26 +1,21 @@
 -- Every run of an on-line line from an empty book is earned.
-use Rattle.std.proofs.Common.{◌≡◌, ℕ, ◌+◌, ◌-◌, Bool, cond, not, List, [], ◌∷◌, ◌++◌, map, length, is_some, Some, None, Option, Result, sym, refl, ap, ◌∙◌, subst, arith}
+use Rattle.std.proofs.Common.{◌≡◌, ℕ, ◌+◌, cond, not, List, [], ◌∷◌, ◌++◌, length, is_some, None, Result, sym, refl, ap, ◌∙◌, subst, arith}
 use Rattle.std.proofs.lemmas.List.{append-nil}
 use Rattle.inspection.specs.declared.status.Status.TheVariants.{Normal, Reduced}
 use Rattle.inspection.specs.declared.verdict.Verdict.TheVariants.{Undecided}
-use Rattle.inspection.specs.declared.kind.Kind.{Kind}
 use Rattle.inspection.specs.declared.kind.Kind.TheVariants as kind
 use Rattle.inspection.specs.declared.tally.Tally.{Tally}
 use Rattle.entries.specs.declared.entry.Entry.{Entry}
 use Rattle.inspection.specs.declared.refusal.Refusal.{Refusal}
 use Rattle.inspection.specs.declared.refusal.Refusal.TheVariants.{NoPeriodOpen, PeriodOpenAlready, NoRoom}
-use Rattle.regimes.specs.declared.class.JudgedClass.{JudgedClass}
-use Rattle.regimes.specs.Classes.{count_of}
-use Rattle.regimes.specs.Portions.{cusum_of}
 use Rattle.runs.specs.Spells.{turned}
 use Rattle.regimes.specs.Portions.{portion_units}
-use Rattle.runs.specs.History.{Call, open_period, enter_portion, end_period, enter_lot, enter_second, hand_in, reissue, grant_relief, report_irregular, Event, Fixed, Article, status, count, waiting, spell, period, period_after, stretch, refusal, first, fault, scored, is_rejected}
+use Rattle.runs.specs.History.{Call, open_period, enter_portion, end_period, enter_lot, enter_second, hand_in, reissue, grant_relief, report_irregular, Event, Fixed, Article, status, count, waiting, spell, period, stretch, refusal, first, fault, scored, is_rejected}
 use Rattle.runs.specs.Earned.{PortionEarned}
 use Rattle.runs.specs.declared.standing.Standing.{Standing}
-use Rattle.runs.specs.Lines.{told, bare, fullness, one_more, turns, settled, refuses, takes, step}
+use Rattle.runs.specs.Lines.{told, bare, fullness, turns, settled, refuses, takes, step}
 use Rattle.regimes.specs.declared.cusum.Values.{Values}
 use Rattle.regimes.specs.Portions.{portion_judged, values_after, on_line_rules}
-use Rattle.regimes.specs.Classes.{some_class}
 use Rattle.runs.specs.Regimes.{no_rows}
 use Rattle.runs.specs.Runs.{ForPortions, fresh}
 use Rattle.regimes.proofs.Stretches.{judged_by_rows}

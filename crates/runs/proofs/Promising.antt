@@ -1,5 +1,5 @@
 -- The promises, for both kinds of line.
-use Rattle.std.proofs.Common.{◌≡◌, ℕ, ◌+◌, ◌≤◌, Bool, true, false, cond, leb, List, [], ◌∷◌, ◌++◌, length, IfSome, Some, None, vec_items, Option, sym, refl, ap, ◌∙◌}
+use Rattle.std.proofs.Common.{◌≡◌, ℕ, Bool, true, false, cond, leb, List, IfSome, Some, None, vec_items, Option, sym, refl, ap, ◌∙◌}
 use Rattle.inspection.specs.declared.status.Status.{Status}
 use Rattle.inspection.specs.declared.tally.Tally.{Tally}
 use Rattle.plans.proofs.Found.{last_kept, rows_kept}
@@ -12,9 +12,9 @@ use Rattle.regimes.specs.Portions.{on_line_rules}
 use Rattle.regimes.specs.Rules.{Rules}
 use Rattle.regimes.specs.declared.cusum.Values.{Values}
 use Rattle.runs.specs.Earned.{Earned}
-use Rattle.runs.specs.History.{Call, Event, Fixed, slip_out}
-use Rattle.runs.specs.Promises.{on_line, stationary, OfEveryLine, Room, run_of, AtEachCall, RefusedAsRuled, AnsweredAsRuled, RejectedOnOverrun, TurnedAsRuled, OfEachRun, BooksTheAccepted, TakenUp, EarnedRun, Settled, GoesOnEarned, SetOnABook, Promised}
-use Rattle.runs.specs.Runs.{Run, run, Served, Each}
+use Rattle.runs.specs.History.{Fixed, slip_out}
+use Rattle.runs.specs.Promises.{on_line, stationary, OfEveryLine, AtEachCall, RefusedAsRuled, AnsweredAsRuled, RejectedOnOverrun, TurnedAsRuled, OfEachRun, BooksTheAccepted, TakenUp, Settled, GoesOnEarned, SetOnABook, Promised}
+use Rattle.runs.specs.Runs.{Run}
 use Rattle.runs.specs.Setting.{Shows}
 use Rattle.runs.specs.Writing.{sheet_score, plan_rules}
 use Rattle.runs.proofs.Books.{sound_exactly, first_unsound, unsound_refuses}

@@ -1,18 +1,14 @@
 -- What a line does that is set on any sound book is the end of an earned run.
-use Rattle.std.proofs.Common.{◌≡◌, ℕ, ◌+◌, ◌*◌, ◌≤◌, Bool, true, false, cond, not, leb, List, [], ◌∷◌, ◌++◌, length, is_some, Some, None, Ok, Err, Option, Result, sym, refl, ap, ◌∙◌, subst, subst₂, arith}
-use Rattle.std.proofs.lemmas.Bool.{eq-eqb, ne_eqb, le-leb}
+use Rattle.std.proofs.Common.{◌≡◌, ℕ, ◌+◌, ◌≤◌, Bool, true, false, cond, List, [], ◌∷◌, ◌++◌, length, Some, None, Option, Result, sym, refl, ap, ◌∙◌, subst, subst₂}
 use Rattle.inspection.specs.declared.tally.Tally.{Tally}
 use Rattle.entries.specs.declared.entry.Entry.{Entry}
 use Rattle.inspection.specs.declared.refusal.Refusal.{Refusal}
-use Rattle.inspection.specs.declared.refusal.Refusal.TheVariants.{SheetLineNotOfForm, NoPeriodOpen, LotAwaits, NoLotAwaits, LotSizeOutOfRange, NoRoom, BookUnsound}
-use Rattle.regimes.specs.declared.class.JudgedClass.TheVariants.{Total}
-use Rattle.regimes.specs.Classes.{count_of}
-use Rattle.runs.specs.History.{Call, open_period, enter_portion, end_period, enter_lot, enter_second, hand_in, reissue, grant_relief, report_irregular, Event, Fixed, slip_out, first, fault, scored}
+use Rattle.runs.specs.History.{Call, Event, Fixed, slip_out}
 use Rattle.runs.specs.Earned.{Earned}
 use Rattle.regimes.specs.Rules.{Rules}
 use Rattle.runs.specs.declared.standing.Standing.{Standing}
 use Rattle.runs.specs.declared.standing.Taken.{Taken}
-use Rattle.runs.specs.Lines.{with_slip, refuses, takes, due_number, Outcome, reading, or_zero, due_size, is_due, settled, sample, portion_taken, lot_taken, second_taken, step}
+use Rattle.runs.specs.Lines.{with_slip, refuses, takes, due_number, step}
 use Rattle.regimes.specs.Portions.{on_line_rules}
 use Rattle.runs.specs.Regimes.{lots_rules, on_line_fixed, lots_fixed}
 use Rattle.runs.specs.Runs.{Run, go, run, fresh, is_entry, call_for, showing, unsound_at, held_to, replayed_by, replay_one, replay_on, replay, Served, Each}

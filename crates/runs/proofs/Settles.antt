@@ -13,7 +13,6 @@ use Rattle.regimes.specs.Classes.{count_of}
 use Rattle.regimes.specs.Portions.{cusum_of}
 use Rattle.runs.specs.Spells.{turned}
 use Rattle.inspection.specs.Statuses.{same_status}
-use Rattle.regimes.specs.Lots.{added}
 use Rattle.regimes.specs.Portions.{portion_units}
 use Rattle.plans.specs.declared.rows.LotRow.{LotRow}
 use Rattle.runs.specs.declared.standing.Reply.{Reply}

@@ -13,8 +13,8 @@ use Rattle.runs.specs.Spells.{Broken, turned}
 use Rattle.runs.specs.Spells.{breaks}
 use Rattle.inspection.specs.Statuses.{same_status}
 use Rattle.runs.specs.declared.standing.Reply.{Reply}
-use Rattle.runs.specs.History.{is_awaited, Call, open_period, enter_portion, end_period, enter_lot, enter_second, hand_in, reissue, grant_relief, report_irregular, Article, first, fault, scored, verdicts}
-use Rattle.runs.specs.Lines.{Reading, both, read_by, reading_on, reading, articles, counted_on, Sample, sole}
+use Rattle.runs.specs.History.{is_awaited, Call, open_period, enter_portion, end_period, enter_lot, enter_second, hand_in, reissue, grant_relief, report_irregular, Article, fault, scored, verdicts}
+use Rattle.runs.specs.Lines.{Reading, both, read_by, reading_on, articles, counted_on, Sample, sole}
 use Rattle.runs.proofs.Spell.{breaks_exactly, kept, new_spell_keeps}
 
 pub same_refl : (s : Status) → same_status s s ≡ true

@@ -1,5 +1,5 @@
 -- The values that a stretch leaves, and the verdict on its newest portion.
-use Rattle.std.proofs.Common.{◌≡◌, ℕ, ◌<◌, Bool, true, false, cond, List, [], ◌∷◌, ◌++◌, length, get_or, sym, refl, ◌∙◌, arith}
+use Rattle.std.proofs.Common.{◌≡◌, ◌<◌, Bool, true, false, cond, List, [], ◌∷◌, ◌++◌, length, get_or, sym, refl, arith}
 use Rattle.std.proofs.lemmas.List.{length-append}
 use Rattle.inspection.specs.Statuses.{same_status}
 use Rattle.inspection.specs.declared.status.Status.{Status}

@@ -1,24 +1,21 @@
 -- The promise over whole runs: what every list of calls and answers of a line that was set on an empty book keeps to.
-use Rattle.std.specs.Prelude.{◌≡◌, ℕ, ◌+◌, ◌-◌, ◌*◌, ◌<◌, ◌≤◌, Bool, true, false, cond, ◌↔◌, List, [], ◌∷◌, ◌++◌, map, length, Some, None, Ok, Err, Option, Result, ◌≢◌, nat_le, slice_index_or}
+use Rattle.std.specs.Prelude.{◌≡◌, ℕ, ◌+◌, ◌-◌, Bool, true, false, cond, ◌↔◌, List, [], ◌∷◌, ◌++◌, map, length, Some, None, Ok, Err, Option, Result, ◌≢◌, nat_le, slice_index_or}
 use Rattle.inspection.specs.declared.status.Status.{Status}
-use Rattle.inspection.specs.declared.status.Status.TheVariants.{Normal, Tightened, Reduced}
+use Rattle.inspection.specs.declared.status.Status.TheVariants.{Normal, Reduced}
 use Rattle.inspection.specs.declared.verdict.Verdict.{Verdict}
 use Rattle.inspection.specs.declared.verdict.Verdict.TheVariants.{Accepted, Rejected, Awaited, Full, Brief, Undecided}
-use Rattle.inspection.specs.declared.tally.Tally.{Tally}
 use Rattle.entries.specs.declared.entry.Entry.{Entry}
 use Rattle.inspection.specs.declared.refusal.Refusal.{Refusal}
 use Rattle.regimes.specs.declared.class.JudgedClass.{JudgedClass}
-use Rattle.regimes.specs.declared.class.JudgedClass.TheVariants.{Critical, Major, Total}
 use Rattle.regimes.specs.Classes.{count_of}
 use Rattle.regimes.specs.Portions.{cusum_of}
 use Rattle.regimes.specs.Promises.{FirstJudged, BothJudged}
 use Rattle.regimes.specs.Rows.{Overruns}
 use Rattle.runs.specs.Spells.{Broken, turned}
-use Rattle.regimes.specs.Lots.{added}
 use Rattle.regimes.specs.Portions.{portion_units}
 use Rattle.plans.specs.declared.rows.LotRow.{LotRow}
 use Rattle.runs.specs.declared.standing.Reply.{Reply}
-use Rattle.runs.specs.History.{Call, open_period, enter_portion, end_period, enter_lot, enter_second, hand_in, reissue, grant_relief, report_irregular, Event, Fixed, Article, Waiting, status, count, waiting, written, article, spell, verdicts, period, stretch, slip_out, refusal, first_units, second_units, scored}
+use Rattle.runs.specs.History.{Call, open_period, enter_portion, end_period, enter_lot, enter_second, hand_in, reissue, grant_relief, report_irregular, Event, Fixed, Article, Waiting, status, count, waiting, written, article, spell, verdicts, period, stretch, refusal, scored}
 
 abbrev pub refused_with : Result Reply Refusal → Option Refusal
 refused_with (Ok r) = None

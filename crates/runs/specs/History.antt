@@ -1,15 +1,14 @@
 -- What a list of calls and their answers says, read off that list alone, the newest event first.
-use Rattle.std.specs.Prelude.{◌≡◌, ℕ, ◌+◌, ◌-◌, ◌*◌, ◌<◌, ◌≤◌, Bool, true, false, cond, not, ◌||◌, List, [], ◌∷◌, ◌++◌, length, drop, is_some, Some, None, Ok, Err, Option, Result, ◌==◌, nat_le, nat_lt}
+use Rattle.std.specs.Prelude.{ℕ, ◌+◌, ◌-◌, Bool, true, false, cond, not, ◌||◌, List, [], ◌∷◌, ◌++◌, length, drop, is_some, Some, None, Ok, Err, Option, Result, ◌==◌, nat_le, nat_lt}
 use Rattle.inspection.specs.declared.status.Status.{Status}
-use Rattle.inspection.specs.declared.status.Status.TheVariants.{Normal, Tightened, Reduced}
+use Rattle.inspection.specs.declared.status.Status.TheVariants.{Normal, Reduced}
 use Rattle.inspection.specs.declared.verdict.Verdict.{Verdict}
 use Rattle.inspection.specs.declared.verdict.Verdict.TheVariants.{Accepted, Rejected, Awaited, Full, Brief, Undecided}
-use Rattle.inspection.specs.declared.kind.Kind.{Kind}
 use Rattle.inspection.specs.declared.kind.Kind.TheVariants as kind
 use Rattle.inspection.specs.declared.tally.Tally.{Tally}
 use Rattle.entries.specs.declared.entry.Entry.{Entry}
 use Rattle.inspection.specs.declared.refusal.Refusal.{Refusal}
-use Rattle.inspection.specs.declared.refusal.Refusal.TheVariants.{SheetLineNotOfForm, UnitAboveSample, PairFalls, NoPeriodOpen, PeriodOpenAlready, LotAwaits, NoLotAwaits, SlipIsOut, LotSizeOutOfRange, ReliefOffNormal, SpellTooShort, TooManyRejected, TooFewUnits, DefectsAboveLimit, NoticeOffReduced, NoRoom, BookUnsound}
+use Rattle.inspection.specs.declared.refusal.Refusal.TheVariants.{NoPeriodOpen, PeriodOpenAlready, LotAwaits, NoLotAwaits, SlipIsOut, LotSizeOutOfRange, ReliefOffNormal, SpellTooShort, TooManyRejected, TooFewUnits, DefectsAboveLimit, NoticeOffReduced, NoRoom}
 use Rattle.regimes.specs.declared.class.JudgedClass.{JudgedClass}
 use Rattle.regimes.specs.declared.class.JudgedClass.TheVariants.{Critical, Major, Total}
 use Rattle.regimes.specs.Classes.{count_of}

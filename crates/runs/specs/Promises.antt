@@ -1,5 +1,5 @@
 -- What is promised of every run of a line from an empty book, and of a line that is set on any book.
-use Rattle.std.specs.Prelude.{◌≡◌, ℕ, ◌+◌, ◌≤◌, Bool, true, false, ◌↔◌, List, [], ◌∷◌, ◌++◌, length, Some, None, Ok, vec_items, Option}
+use Rattle.std.specs.Prelude.{◌≡◌, ℕ, ◌+◌, ◌≤◌, false, ◌↔◌, List, [], ◌∷◌, ◌++◌, length, Some, None, Ok, vec_items, Option}
 use Rattle.inspection.specs.declared.refusal.Refusal.TheVariants.{BookUnsound}
 use Rattle.inspection.specs.declared.tally.Tally.{Tally}
 use Rattle.entries.specs.declared.entry.Entry.{Entry}

@@ -1,5 +1,5 @@
 -- What stays fixed over a run of each kind of line.
-use Rattle.std.specs.Prelude.{ℕ, true, false, List, Some, None, Option, Result}
+use Rattle.std.specs.Prelude.{ℕ, false, List, None, Option, Result}
 use Rattle.inspection.specs.declared.refusal.Refusal.{Refusal}
 use Rattle.inspection.specs.declared.status.Status.{Status}
 use Rattle.inspection.specs.declared.tally.Tally.{Tally}

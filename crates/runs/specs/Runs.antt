@@ -1,6 +1,5 @@
 -- Runs of a line over lists of calls, and the setting of a line on a book, which replays its entries.
-use Rattle.std.specs.Prelude.{◌≡◌, ℕ, ◌+◌, ◌*◌, ◌<◌, ◌≤◌, Bool, true, false, cond, ◌&&◌, List, [], ◌∷◌, ◌++◌, length, Some, None, Ok, Err, Option, Result, ◌==◌, nat_le}
-use Rattle.inspection.specs.declared.status.Status.{Status}
+use Rattle.std.specs.Prelude.{◌≡◌, ℕ, ◌+◌, ◌*◌, ◌≤◌, Bool, true, false, cond, ◌&&◌, List, [], ◌∷◌, ◌++◌, length, Some, None, Ok, Err, Option, Result, ◌==◌, nat_le}
 use Rattle.inspection.specs.declared.status.Status.TheVariants.{Normal}
 use Rattle.inspection.specs.declared.verdict.Verdict.{Verdict}
 use Rattle.inspection.specs.declared.verdict.Verdict.TheVariants.{Accepted, Rejected, Awaited, Full, Brief, Undecided}
@@ -10,21 +9,14 @@ use Rattle.inspection.specs.declared.tally.Tally.{Tally}
 use Rattle.entries.specs.declared.entry.Entry.{Entry}
 use Rattle.inspection.specs.declared.refusal.Refusal.{Refusal}
 use Rattle.inspection.specs.declared.refusal.Refusal.TheVariants.{SheetLineNotOfForm}
-use Rattle.regimes.specs.declared.class.JudgedClass.{JudgedClass}
 use Rattle.regimes.specs.declared.class.JudgedClass.TheVariants.{Total}
 use Rattle.regimes.specs.Classes.{count_of}
 use Rattle.inspection.specs.Statuses.{same_status}
-use Rattle.plans.specs.declared.rows.LotRow.{LotRow}
 use Rattle.runs.specs.History.{Call, open_period, enter_portion, end_period, enter_lot, enter_second, hand_in, reissue, grant_relief, report_irregular, Event}
-use Rattle.runs.specs.Earned.{Earned}
 use Rattle.regimes.specs.Rules.{Rules}
 use Rattle.runs.specs.declared.standing.Standing.{Standing}
 use Rattle.runs.specs.declared.standing.Taken.{Taken}
 use Rattle.runs.specs.Lines.{due_number, with_slip, refuses, takes, step}
-use Rattle.regimes.specs.Portions.{on_line_rules}
-use Rattle.plans.specs.Plans.{lot_row_kept}
-use Rattle.regimes.specs.declared.judge.Limits.{Limits}
-use Rattle.runs.specs.Regimes.{lots_rules, on_line_fixed, lots_fixed}
 
 -- the line of an empty book
 abbrev pub fresh : {C : Type 0} → Rules C → Standing C

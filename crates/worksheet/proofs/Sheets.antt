@@ -1,26 +1,24 @@
 -- A sheet for every tally: its defects stand at the first places of the sample, nine to a unit.
-use Rattle.std.proofs.Common.{◌≡◌, ℕ, zero, suc, ◌+◌, ◌-◌, ◌*◌, ◌/◌, ◌%◌, ◌^◌, ◌<◌, ◌≤◌, Bool, true, false, cond, ◌&&◌, ◌||◌, eqb, ltb, ◌⊎◌, List, [], ◌∷◌, ◌++◌, length, get_or, replicate, Some, None, Ok, Err, decimal, Option, Result, sym, refl, ap, ◌∙◌, subst, inl, inr, ⊎_elim, append_assoc, mod-lt, zero-add, arith}
+use Rattle.std.proofs.Common.{◌≡◌, ℕ, zero, suc, ◌+◌, ◌*◌, ◌/◌, ◌%◌, ◌^◌, ◌<◌, ◌≤◌, false, eqb, ◌⊎◌, List, [], ◌∷◌, ◌++◌, length, replicate, Some, Ok, decimal, sym, refl, ap, ◌∙◌, inl, inr, ⊎_elim, append_assoc, mod-lt, zero-add, arith}
 use native.Mathlib.Nat.{div-add-mod}
 use Rattle.std.proofs.lemmas.Fmt.{digits_decimal}
 use Rattle.std.proofs.lemmas.List.{length-append, length-replicate}
 use Rattle.std.proofs.lemmas.Str.Parse.{not_in_digits}
 use Rattle.std.proofs.lemmas.Bool.{ne_eqb, le-ltb, cond-false, cases_lt, or_from, and_left, and_right}
-use Rattle.std.proofs.lemmas.Bool.Decides.{nat_tests}
 use Rattle.std.specs.List.{flat_map}
 use Rattle.inspection.specs.Letters.{class_letter}
 use Rattle.inspection.specs.Tallies.{total_of}
 use Rattle.inspection.specs.declared.class.DefectClass.{DefectClass}
 use Rattle.inspection.specs.declared.class.DefectClass.TheVariants.{Critical, Major, Minor}
-use Rattle.inspection.specs.declared.refusal.Refusal.{Refusal}
 use Rattle.inspection.specs.declared.tally.Tally.{Tally}
 use Rattle.worksheet.specs.declared.defect.Defect.{Defect}
 use Rattle.worksheet.specs.declared.scoring.Running.{Running}
 use Rattle.worksheet.specs.Defects.{Keyed, written, related, falls}
-use Rattle.worksheet.specs.Pieces.{Piece, number_of, defect_of, piece, after, pieces}
+use Rattle.worksheet.specs.Pieces.{Piece, number_of, defect_of, piece, after}
 use Rattle.worksheet.specs.Promises.{SomeSheetShows}
-use Rattle.worksheet.specs.Running.{counted, next_line, entered}
-use Rattle.worksheet.specs.Scores.{fault, fault_of, falls_after, score_of}
-use Rattle.worksheet.specs.Texts.{onto, lines}
+use Rattle.worksheet.specs.Running.{counted, entered}
+use Rattle.worksheet.specs.Scores.{fault_of, falls_after}
+use Rattle.worksheet.specs.Texts.{lines}
 use Rattle.worksheet.proofs.Cuts.{lines_over}
 use Rattle.worksheet.proofs.Going.{turn, going, start, goes_whole}
 use Rattle.decimals.proofs.Reading.{own}

@@ -1,5 +1,5 @@
 -- Tallies of distinct pairs: a related defect and a new one.
-use Rattle.std.proofs.Common.{◌≡◌, ℕ, ◌+◌, ◌<◌, ◌≤◌, Bool, true, false, cond, ◌&&◌, ◌||◌, eqb, List, [], ◌∷◌, sum_by, count_by, sym, refl, ap, ◌∙◌, subst, add_assoc, add_comm, zero-add, arith}
+use Rattle.std.proofs.Common.{◌≡◌, ℕ, ◌+◌, Bool, true, false, cond, eqb, List, [], ◌∷◌, sym, refl, ap, ◌∙◌, subst, zero-add, arith}
 use Rattle.std.proofs.lemmas.List.Sums.{sum_by-cons}
 use Rattle.std.proofs.lemmas.Bool.{and_parts, and_from, eqb-true, eq-eqb, cond-true, cond-false, or_left, or_parts}
 use Rattle.std.proofs.lemmas.Bool.Decides.{nat_tests}
@@ -9,7 +9,7 @@ use Rattle.inspection.specs.declared.class.DefectClass.{DefectClass}
 use Rattle.inspection.specs.declared.class.DefectClass.TheVariants.{Critical, Major, Minor}
 use Rattle.inspection.specs.declared.tally.Tally.{Tally}
 use Rattle.worksheet.specs.declared.defect.Defect.{Defect}
-use Rattle.worksheet.specs.Defects.{Pair, pair, same_pair, related}
+use Rattle.worksheet.specs.Defects.{Pair, pair, same_pair}
 use Rattle.worksheet.specs.Running.{counted}
 use Rattle.worksheet.specs.Scores.{occurs, pairs, worst, is_critical, is_major, is_minor, by_class, tally_of}
 

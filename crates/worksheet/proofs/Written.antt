@@ -3,7 +3,7 @@ use Rattle.std.proofs.Common.{◌≡◌, ℕ, zero, suc, ◌+◌, ◌-◌, ◌^�
 use native.Mathlib.Nat.{pow-le-pow_right}
 use Rattle.std.proofs.lemmas.Fmt.{decimal_digit, decimal-digits_value, digits_decimal, digits_value-decimal, length-decimal-le, first_decimal, decimal_nonempty}
 use Rattle.std.proofs.lemmas.Str.Parse.{not_in_digits, digits_value_short}
-use Rattle.std.proofs.lemmas.Bool.{and_from, and_parts, eqb-true, ltb-true, leb-true, eq-eqb, lt-ltb, le-leb, ne_eqb, cond-true}
+use Rattle.std.proofs.lemmas.Bool.{and_from, and_parts, eqb-true, ltb-true, leb-true, lt-ltb, le-leb, cond-true}
 use Rattle.std.specs.Option.{option_map}
 use Rattle.std.specs.Str.Parse.{digits_value}
 use lib.Utf8.{encode}
@@ -16,10 +16,9 @@ use Rattle.inspection.specs.Letters.{class_letter, class_of}
 use Rattle.inspection.specs.declared.class.DefectClass.{DefectClass}
 use Rattle.inspection.specs.declared.class.DefectClass.TheVariants.{Critical, Major, Minor}
 use Rattle.worksheet.specs.declared.defect.Defect.{Defect}
-use Rattle.worksheet.specs.Defects.{unit_form, unit_of, tail_form, tail_of, at_unit, joint, written, Keyed}
+use Rattle.worksheet.specs.Defects.{unit_form, unit_of, tail_form, tail_of, joint, written, Keyed}
 use Rattle.worksheet.specs.Pieces.{Piece, fields, bare, text_of, defect_of, by_tab, piece}
 use Rattle.worksheet.specs.Promises.{ReadsBack}
-use Rattle.worksheet.specs.Texts.{before, parted}
 use Rattle.worksheet.proofs.Cuts.{parted_field, text_of_piece}
 
 -- nothing is not something

@@ -1,5 +1,5 @@
 -- What holds of every sheet, over the definitions of this folder.
-use Rattle.std.specs.Prelude.{◌≡◌, ℕ, ◌+◌, ◌*◌, ◌<◌, ◌≤◌, ◌↔◌, List, length, IfOk, Some, Ok, Err, Result, slice_index_or}
+use Rattle.std.specs.Prelude.{◌≡◌, ℕ, ◌+◌, ◌*◌, ◌<◌, ◌≤◌, ◌↔◌, List, length, IfOk, Some, Ok, Result, slice_index_or}
 use Rattle.std.specs.List.{flat_map}
 use Rattle.inspection.specs.Tallies.{total_of}
 use Rattle.inspection.specs.declared.refusal.Refusal.{Refusal}

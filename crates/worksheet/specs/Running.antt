@@ -1,5 +1,5 @@
 -- Scoring as far as it has come: the tally of the pairs that are done, and the pair of the last line with its worst class so far.
-use Rattle.std.specs.Prelude.{ℕ, ◌+◌, cond, Some, None, Option}
+use Rattle.std.specs.Prelude.{◌+◌, cond, Some, None, Option}
 use Rattle.inspection.specs.Tallies.{worse}
 use Rattle.inspection.specs.declared.class.DefectClass.{DefectClass}
 use Rattle.inspection.specs.declared.class.DefectClass.TheVariants.{Critical, Major, Minor}

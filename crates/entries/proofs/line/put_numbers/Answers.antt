@@ -1,4 +1,4 @@
-use Rattle.std.proofs.Common.{◌≡◌, ◌++◌, ap, ◌∙◌, arith}
+use Rattle.std.proofs.Common.{◌≡◌, ◌++◌, ◌∙◌, arith}
 use Rattle.entries.specs.Lines.{number_field}
 use Rattle.entries.proofs.Placing.{all_placed}
 use Rattle.entries.proofs.line.put_numbers.Goals as goal

@@ -1,4 +1,3 @@
-use Rattle.std.proofs.Common.{arith}
 use Rattle.entries.proofs.Chains.{taken}
 use Rattle.entries.proofs.line.take_number.Goals as goal
 

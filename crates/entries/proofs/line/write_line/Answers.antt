@@ -1,4 +1,4 @@
-use Rattle.std.proofs.Common.{◌≡◌, ◌++◌, ap, ◌∙◌, arith, rules}
+use Rattle.std.proofs.Common.{◌++◌, ◌∙◌, arith, rules}
 use Rattle.entries.proofs.Placing.{line_placed}
 use Rattle.entries.proofs.line.write_line.Goals as goal
 

@@ -1,11 +1,10 @@
 use Rattle.std.proofs.Common.{◌-◌, Some, sym, ap, ◌∙◌, arith}
 use Rattle.std.proofs.lemmas.List.{get_or_default}
 use Rattle.entries.specs.Entries.{spoiled, or_spoiled}
-use Rattle.books.specs.Books.{numbered}
 use Rattle.books.specs.Stores.{table_entries}
 use Rattle.books.specs.Bounds.{length_table}
 use Rattle.books.proofs.Keeping.{table_at}
-use Rattle.books.proofs.Numbering.{numbered_zero, numbered_beyond, numbered_place}
+use Rattle.books.proofs.Numbering.{numbered_place}
 use Rattle.books.proofs.table.TableBook.read_at.Goals as goal
 
 pub returns : goal.returns

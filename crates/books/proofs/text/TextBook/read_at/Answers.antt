@@ -1,11 +1,10 @@
 use Rattle.std.proofs.Common.{◌≡◌, ◌+◌, ◌-◌, ◌*◌, take, drop, Some, sym, ap, ◌∙◌, arith}
 use Rattle.entries.specs.Entries.{spoiled}
 use Rattle.entries.specs.Lines.{entry_in}
-use Rattle.books.specs.Books.{numbered}
 use Rattle.books.specs.Stores.{cut, lines_in, text_entries}
 use Rattle.books.specs.Bounds.{length_stored}
 use Rattle.books.proofs.Keeping.{stored_at}
-use Rattle.books.proofs.Numbering.{numbered_zero, numbered_beyond, numbered_place}
+use Rattle.books.proofs.Numbering.{numbered_place}
 use Rattle.books.proofs.text.TextBook.read_at.Goals as goal
 
 pub returns : goal.returns

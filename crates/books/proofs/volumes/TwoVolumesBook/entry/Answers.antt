@@ -1,4 +1,4 @@
-use Rattle.std.proofs.Common.{◌-◌, sym, ap, ◌∙◌, arith}
+use Rattle.std.proofs.Common.{◌-◌, ap, ◌∙◌, arith}
 use Rattle.books.specs.Books.{numbered}
 use Rattle.books.proofs.Binding.{in_first, in_second, in_none}
 use Rattle.books.proofs.volumes.TwoVolumesBook.entry.Goals as goal

@@ -1,4 +1,4 @@
-use Rattle.std.proofs.Common.{◌≡◌, true, IfSome, vec_items, sym, ◌∙◌, subst, arith}
+use Rattle.std.proofs.Common.{◌≡◌, true, IfSome, vec_items, sym, subst, arith}
 use Rattle.plans.specs.Finding.{row_fits}
 use Rattle.plans.specs.Plans.{lot_row_kept}
 use Rattle.plans.proofs.Found.{found_more, found_all, last_kept, rows_kept}

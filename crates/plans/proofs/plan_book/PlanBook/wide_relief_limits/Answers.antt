@@ -1,4 +1,4 @@
-use Rattle.std.proofs.Common.{vec_items, sym, ◌∙◌, arith}
+use Rattle.std.proofs.Common.{vec_items, arith}
 use Rattle.plans.specs.Finding.{limits_fit}
 use Rattle.plans.proofs.Found.{found_more, found_all}
 use Rattle.plans.proofs.plan_book.PlanBook.wide_relief_limits.Goals as goal
