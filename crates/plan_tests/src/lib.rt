@@ -4,4 +4,6 @@
 #[cfg(test)]
 mod fresh;
 #[cfg(test)]
-mod texts;
+mod lines;
+#[cfg(test)]
+mod reading;
