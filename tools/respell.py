@@ -17,7 +17,7 @@ TOKEN = re.compile(r"(?<![A-Za-z0-9_α-ωΑ-Ω'«-])" + NAME)
 SIGNATURE = re.compile(r"^(\s*)(?:(?:abbrev|unfoldable|pub|where) )*(" + NAME + r") :(?!=)\s+(.*)$")
 TYPE = re.compile(r"^\s*(?:pub )?(?:record|data) (" + NAME + r")")
 USE = re.compile(r"^(?:pub )?(?:ghost )?use ([^{;]+)\.\{([^}]*)\}")
-# A name that would fall together with one of the source or of the library, or that port.py spelled as a plain word.
+# Names by no rule: two would fall together with definitions beside them, and two have no dash.
 OTHER = {"isAwaited": "is_awaited", "isRejected": "is_rejected", "Judged-by-rows": "AllJudgedByRows", "Judged-by-numbers": "AllJudgedByNumbers"}
 
 
@@ -29,14 +29,17 @@ def files(root):
                 yield os.path.join(folder, n)
 
 
-def code(text, antt):
+# A comment of antt begins a line or follows a space, since names have dashes too.
+NOT_CODE = {
+    ".antt": re.compile(r"(?:(?<=\s)|^)--(?=\s|$)[^\n]*", re.M),
+    ".rt": re.compile(r"//[^\n]*|b?\"(?:[^\"\\]|\\.)*\"", re.M),
+}
+
+
+def parts(text, ending):
     """The text in parts, each with whether it is code (and no comment or string)."""
-    mark = r"(--[^\n]*|\"(?:[^\"\\\n]|\\.)*\")" if antt else r"(//[^\n]*|b?\"(?:[^\"\\]|\\.)*\")"
-    if antt:
-        # a comment begins a line or follows a space
-        mark = r"((?:(?<=\s)|^)--(?=\s|$)[^\n]*)"
     last = 0
-    for m in re.finditer(mark, text, re.M):
+    for m in NOT_CODE[ending].finditer(text):
         yield text[last:m.start()], True
         yield m.group(0), False
         last = m.end()
@@ -49,6 +52,11 @@ def new_name(old):
     if old[0].isupper():
         return "".join(p[0].upper() + p[1:] for p in re.split(r"[-_]", old) if p)
     return old.replace("-", "_")
+
+
+def write(path, text):
+    with open(path, "w", encoding="utf-8") as f:
+        f.write(text)
 
 
 def main():
@@ -81,25 +89,19 @@ def main():
         for n in sorted(names):
             print(n, names[n], "IMPORTED" if n in clash else "", "DEFINED" if names[n] in defined else "", "LIBRARY" if names[n] in imported else "")
         return
+    def respelled(text):
+        return TOKEN.sub(lambda m: names.get(m.group(0), m.group(0)), text)
+
+    def in_backticks(text):
+        return re.sub(r"`[^`\n]*`", lambda m: respelled(m.group(0)), text)
+
+    for p, t in texts.items():
+        ending = os.path.splitext(p)[1]
+        write(p, "".join(respelled(part) if is_code else in_backticks(part) for part, is_code in parts(t, ending)))
     for p in ["README.md"] + sorted(os.path.join("docs", n) for n in os.listdir("docs") if n.endswith(".md")):
         with open(p, encoding="utf-8") as f:
-            texts[p] = f.read()
-    for p, t in texts.items():
-        out = []
-        if p.endswith(".md"):
-            with open(p, "w", encoding="utf-8") as f:
-                f.write(re.sub(r"`[^`\n]*`", lambda q: TOKEN.sub(lambda m: names.get(m.group(0), m.group(0)), q.group(0)), t))
-            continue
-        for part, is_code in code(t, p.endswith(".antt")):
-            if is_code:
-                part = TOKEN.sub(lambda m: names.get(m.group(0), m.group(0)), part)
-            else:
-                part = re.sub(r"`[^`\n]*`", lambda q: TOKEN.sub(lambda m: names.get(m.group(0), m.group(0)), q.group(0)), part)
-            out.append(part)
-        u = "".join(out)
-        if u != t:
-            with open(p, "w", encoding="utf-8") as f:
-                f.write(u)
+            t = f.read()
+        write(p, in_backticks(t))
 
 
 main()
