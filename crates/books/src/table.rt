@@ -13,9 +13,9 @@ pub type TableBook<'a> = CountedBook<&'a mut [Entry]>;
 impl<'a> Places for &'a mut [Entry] {
     ghost standing = { λ m. records_read m.now };
 
-    ghost written = { λ place entry old new. new.now ≡ record_after place entry old.now };
+    ghost written = { λ place entry old new. new ≡ record old { now = record_after place entry old.now } };
 
-    ghost keeps = { λ place entry old new within fine is. record_kept place entry old.now new.now fine is };
+    ghost keeps = { λ place entry old new within fine is. record_kept place entry old.now new.now fine (λ i. (is i).now) };
 
     fn places(&self) -> usize {
         self.len()

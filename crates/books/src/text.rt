@@ -15,9 +15,9 @@ pub type TextBook<'a> = CountedBook<&'a mut [u8]>;
 impl<'a> Places for &'a mut [u8] {
     ghost standing = { λ m. lines_read m.now };
 
-    ghost written = { λ place entry old new. new.now ≡ line_after place entry old.now };
+    ghost written = { λ place entry old new. new ≡ record old { now = line_after place entry old.now } };
 
-    ghost keeps = { λ place entry old new within fine is. line_kept place entry old.now new.now within fine is };
+    ghost keeps = { λ place entry old new within fine is. line_kept place entry old.now new.now within fine (λ i. (is i).now) };
 
     fn places(&self) -> usize {
         self.len() / LINE
