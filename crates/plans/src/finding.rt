@@ -85,9 +85,7 @@ impl PlanBook {
         let mut found = None;
         for i in 0..self.lots.len() {
             let row = self.lots[i];
-            if fits_lot(&row, status, size) {
-                found = Some(row);
-            }
+            found = fits_lot(&row, status, size).then_some(row).or(found);
         }
         found
     }
@@ -97,10 +95,12 @@ impl PlanBook {
         ensures { (n : ℕ) × U.converts units n × (result ≡ limits_for n self.now.limits.items) }
     {
         let units = units.into();
-        self.limits
-            .iter()
-            .copied()
-            .filter(|row| u64::from(row.lowest_units) <= units)
-            .last()
+        let mut found = None;
+        for row in &self.limits {
+            found = (u64::from(row.lowest_units) <= units)
+                .then_some(*row)
+                .or(found);
+        }
+        found
     }
 }

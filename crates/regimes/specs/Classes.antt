@@ -2,8 +2,8 @@
 use Rattle.std.specs.Prelude.{ℕ, Bool, ◌&&◌, ◌||◌}
 use Rattle.inspection.specs.Tallies.{total_of}
 use Rattle.inspection.specs.declared.tally.Tally.{Tally}
-use Rattle.regimes.specs.declared.class.JudgedClass.{JudgedClass}
-use Rattle.regimes.specs.declared.class.JudgedClass.TheVariants.{Critical, Major, Total}
+use Rattle.inspection.specs.declared.class.JudgedClass.{JudgedClass}
+use Rattle.inspection.specs.declared.class.JudgedClass.TheVariants.{Critical, Major, Total}
 
 abbrev pub count_of : JudgedClass → Tally → ℕ
 count_of Critical t = t.critical

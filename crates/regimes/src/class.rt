@@ -1,6 +1,6 @@
 // The three counts of a tally that are judged.
 ghost use Rattle.std.specs.Prelude.{◌≡◌, ◌*◌, ◌^◌, ◌<◌};
-ghost use Rattle.regimes.specs.Classes.{count_of};
+ghost use Rattle.inspection.specs.Classes.{count_of};
 
 use inspection::tally::Tally;
 
