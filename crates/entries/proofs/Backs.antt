@@ -1,6 +1,7 @@
 -- Lines read back, and nothing else reads as an entry.
 use Rattle.std.proofs.Common.{◌≡◌, ℕ, ◌+◌, ◌^◌, ◌<◌, ◌≤◌, Bool, true, false, cond, ◌&&◌, eqb, ltb, leb, List, [], ◌∷◌, ◌++◌, length, get_or, take, drop, Some, None, Option, sym, refl, ap, ◌∙◌, subst, append_assoc, arith}
 use Rattle.std.proofs.lemmas.List.{append-nil, length-append, length-take-le, take_at, drop_at, get_or_at, take-append-drop, drop_more, drop-drop}
+use Rattle.std.proofs.lemmas.Bool.Decides.{nat_tests}
 use Rattle.std.proofs.lemmas.Bool.{and_from, and_parts, lt-ltb, ltb-true, eq-eqb, eqb-true, leb-true, cond-true, both_ways}
 use Rattle.decimals.specs.Digits.{numeral, padded}
 use Rattle.decimals.proofs.Writing.{length_padded, written_back, read_back}
@@ -19,9 +20,6 @@ use Rattle.entries.specs.Entries.{no_numbers, fits_fields, writable_as, writable
 use Rattle.entries.specs.Lines.{number_field, numbers_text, line_of, Read, then, closed_by, with_rest, number_at, ended, numbers_in, joint, tabs, fields_in, read_as, Long, ReadsBack, NoOther, ElseSpoiled}
 use Rattle.entries.proofs.Chains.{chained}
 
-never : {X : Type 0} {P : Type 0} {x : X} → None ≡ Some x → P
-never e = let z : ◌≡◌ {A = ℕ} 0 1 = cc in absurd (omega arith)
-
 -- a number in its field reads back
 number_forth : (w n end : ℕ) (rest : List ℕ) → 1 ≤ w → w ≤ 9 → n < 10 ^ w → Some (n, rest) ≡ number_at w end (number_field w n end ++ rest)
 number_forth w n end rest some few lt =
@@ -39,8 +37,8 @@ number_back : (w end : ℕ) (bs : List ℕ) (p : ℕ × List ℕ) → number_at 
 number_back w end bs p e = by (closed_by w end bs) refl (numeral (take w bs)) refl e
   where
     by : (t : Bool) → closed_by w end bs ≡ t → (o : Option ℕ) → numeral (take w bs) ≡ o → cond t (with_rest (drop (w + 1) bs) o) None ≡ Some p → bs ≡ number_field w p.0 end ++ p.1
-    by false c o r e = never e
-    by true c None r e = never e
+    by false c o r e = cc
+    by true c None r e = cc
     by true c (Some n) r e =
         let same : ◌≡◌ {A = ℕ × List ℕ} (n, drop (w + 1) bs) p = cc in
         let parts = and_parts (ltb w (length bs)) _ c in
@@ -55,12 +53,12 @@ number_back w end bs p e = by (closed_by w end bs) refl (numeral (take w bs)) re
         ∙ sym (append_assoc (padded w n) (end ∷ []) (drop (w + 1) bs)))
 
 then_some : {X Y : Type 0} (o : Read X) (f : X → List ℕ → Option Y) (y : Y) → then o f ≡ Some y → (p : X × List ℕ) × (o ≡ Some p) × (f p.0 p.1 ≡ Some y)
-then_some None f y e = never e
+then_some None f y e = cc
 then_some (Some p) f y e = (p, refl, e)
 
 ended_some : {X : Type 0} (x y : X) (bs : List ℕ) → ended x bs ≡ Some y → (bs ≡ []) × (x ≡ y)
 ended_some x y [] e = (refl, cc)
-ended_some x y (b ∷ bs) e = never e
+ended_some x y (b ∷ bs) e = cc
 
 numbers_back : (bs : List ℕ) (n : Numbers) → numbers_in bs ≡ Some n → bs ≡ numbers_text n.lot_size n.units n.tally
 numbers_back bs n e =
@@ -96,27 +94,13 @@ numbers_forth lot units t a b c d e =
     last)
 
 kind_forth : (k : Kind) → kind_of (kind_letter k) ≡ Some k
-kind_forth PeriodOpened = refl
-kind_forth Portion = refl
-kind_forth PeriodEnded = refl
-kind_forth Lot = refl
-kind_forth SecondSample = refl
-kind_forth Relief = refl
-kind_forth IrregularNotice = refl
-kind_forth Spoiled = refl
+kind_forth k = grind arith
 
 status_forth : (s : Status) → status_of (status_letter s) ≡ Some s
-status_forth Normal = refl
-status_forth Tightened = refl
-status_forth Reduced = refl
+status_forth s = grind arith
 
 verdict_forth : (v : Verdict) → verdict_of (verdict_letter v) ≡ Some v
-verdict_forth Accepted = refl
-verdict_forth Rejected = refl
-verdict_forth Awaited = refl
-verdict_forth Full = refl
-verdict_forth Brief = refl
-verdict_forth Undecided = refl
+verdict_forth v = grind arith
 
 pub record Fits (e : Entry) : Type 0 where
   pub lot : e.lot_size ≤ 9999999
@@ -126,25 +110,10 @@ pub record Fits (e : Entry) : Type 0 where
   pub minor : e.tally.minor ≤ 99999
 
 fields_fit : (e : Entry) → fits_fields e ≡ true → Fits e
-fields_fit e h =
-    let d = and_parts _ (leb e.tally.minor 99999) h in
-    let c = and_parts _ (leb e.tally.major 99999) d.0 in
-    let b = and_parts _ (leb e.tally.critical 99999) c.0 in
-    let a = and_parts (leb e.lot_size 9999999) (leb e.units 9999) b.0 in
-    record { lot = leb-true _ _ a.0; few = leb-true _ _ a.1; critical = leb-true _ _ b.1; major = leb-true _ _ c.1; minor = leb-true _ _ d.1 }
+fields_fit e h = record { lot = grind (arith, nat_tests); few = grind (arith, nat_tests); critical = grind (arith, nat_tests); major = grind (arith, nat_tests); minor = grind (arith, nat_tests) }
 
 nothing_fits : (e : Entry) → no_numbers e ≡ true → Fits e
-nothing_fits e h =
-    let d = and_parts _ (eqb e.tally.minor 0) h in
-    let c = and_parts _ (eqb e.tally.major 0) d.0 in
-    let b = and_parts _ (eqb e.tally.critical 0) c.0 in
-    let a = and_parts (eqb e.lot_size 0) (eqb e.units 0) b.0 in
-    let lot = eqb-true e.lot_size 0 a.0 in
-    let units = eqb-true e.units 0 a.1 in
-    let critical = eqb-true e.tally.critical 0 b.1 in
-    let major = eqb-true e.tally.major 0 c.1 in
-    let minor = eqb-true e.tally.minor 0 d.1 in
-    record { lot = omega arith; few = omega arith; critical = omega arith; major = omega arith; minor = omega arith }
+nothing_fits e h = record { lot = grind (arith, nat_tests); few = grind (arith, nat_tests); critical = grind (arith, nat_tests); major = grind (arith, nat_tests); minor = grind (arith, nat_tests) }
 
 writable_fits : (k : Kind) (e : Entry) → writable_as k e ≡ true → Fits e
 writable_fits PeriodOpened e h = nothing_fits e (and_parts (no_numbers e) _ h).0
@@ -154,7 +123,7 @@ writable_fits Lot e h = fields_fit e h
 writable_fits SecondSample e h = fields_fit e h
 writable_fits Relief e h = nothing_fits e (and_parts (no_numbers e) _ h).0
 writable_fits IrregularNotice e h = nothing_fits e (and_parts (no_numbers e) _ h).0
-writable_fits Spoiled e h = absurd (both_ways true (sym h) refl)
+writable_fits Spoiled e h = cc
 
 fields_forth : (e : Entry) → Fits e → fields_in (line_of e) ≡ Some e
 fields_forth e f =
@@ -168,20 +137,20 @@ reads_back e h = ap read_as (fields_forth e (writable_fits e.kind e h)) ∙ cond
 
 -- bytes whose fields say an entry are its line
 fields_back : (bs : List ℕ) (e : Entry) → fields_in bs ≡ Some e → bs ≡ line_of e
-fields_back [] e h = never h
-fields_back (k ∷ []) e h = never h
-fields_back (k ∷ a ∷ []) e h = never h
-fields_back (k ∷ a ∷ s ∷ []) e h = never h
-fields_back (k ∷ a ∷ s ∷ b ∷ []) e h = never h
-fields_back (k ∷ a ∷ s ∷ b ∷ v ∷ []) e h = never h
+fields_back [] e h = cc
+fields_back (k ∷ []) e h = cc
+fields_back (k ∷ a ∷ []) e h = cc
+fields_back (k ∷ a ∷ s ∷ []) e h = cc
+fields_back (k ∷ a ∷ s ∷ b ∷ []) e h = cc
+fields_back (k ∷ a ∷ s ∷ b ∷ v ∷ []) e h = cc
 fields_back (k ∷ a ∷ s ∷ b ∷ v ∷ c ∷ bs) e h = by (tabs a b c) refl (kind_of k) refl (status_of s) refl (verdict_of v) refl (numbers_in bs) refl h
   where
     by : (t : Bool) → tabs a b c ≡ t → (o : Option Kind) → kind_of k ≡ o → (p : Option Status) → status_of s ≡ p → (q : Option Verdict) → verdict_of v ≡ q → (n : Option Numbers) → numbers_in bs ≡ n → cond t (joint o p q n) None ≡ Some e → k ∷ a ∷ s ∷ b ∷ v ∷ c ∷ bs ≡ line_of e
-    by false t o ko p sp q vq n nn h = never h
-    by true t None ko p sp q vq n nn h = never h
-    by true t (Some x) ko None sp q vq n nn h = never h
-    by true t (Some x) ko (Some y) sp None vq n nn h = never h
-    by true t (Some x) ko (Some y) sp (Some z) vq None nn h = never h
+    by false t o ko p sp q vq n nn h = cc
+    by true t None ko p sp q vq n nn h = cc
+    by true t (Some x) ko None sp q vq n nn h = cc
+    by true t (Some x) ko (Some y) sp None vq n nn h = cc
+    by true t (Some x) ko (Some y) sp (Some z) vq None nn h = cc
     by true t (Some x) ko (Some y) sp (Some z) vq (Some m) nn h =
         let same : ◌≡◌ {A = Entry} (record { kind = x; status = y; verdict = z; lot_size = m.lot_size; units = m.units; tally = m.tally }) e = cc in
         let marks = and_parts (eqb a 9 && eqb b 9) _ t in
@@ -200,12 +169,12 @@ pub no_other : NoOther
 no_other bs h = by (fields_in bs) refl h
   where
     by : (o : Option Entry) → fields_in bs ≡ o → writable (read_as o) ≡ true → bs ≡ line_of (read_as o)
-    by None f h = absurd (both_ways true (sym h) refl)
+    by None f h = cc
     by (Some e) f h = kept (writable e) refl h
       where
         kept : (t : Bool) → writable e ≡ t → writable (cond t e spoiled) ≡ true → bs ≡ line_of (cond t e spoiled)
         kept true w h = fields_back bs e f
-        kept false w h = absurd (both_ways true (sym h) refl)
+        kept false w h = cc
 
 pub else_spoiled : ElseSpoiled
 else_spoiled bs n = by (fields_in bs) refl

@@ -37,6 +37,7 @@ fn take_number(bytes: &[u8], width: usize, end: u8) -> Option<(u32, &[u8])>
     Some((read_digits(digits)?, rest))
 }
 
+#[tactic(auto, using(crate::proofs::Chains::not_ended))]
 fn read_numbers(bytes: &[u8]) -> Option<Numbers>
     ensures { result ≡ numbers_in bytes.now }
 {
@@ -44,10 +45,9 @@ fn read_numbers(bytes: &[u8]) -> Option<Numbers>
     let (units, rest) = take_number(rest, 4, b'\t')?;
     let (critical, rest) = take_number(rest, 5, b'\t')?;
     let (major, rest) = take_number(rest, 5, b'\t')?;
-    let (minor, rest) = take_number(rest, 5, b'\n')?;
-    if !rest.is_empty() {
+    let (minor, []) = take_number(rest, 5, b'\n')? else {
         return None;
-    }
+    };
     Some(Numbers {
         lot_size,
         units,
@@ -80,6 +80,7 @@ fn read_parts(kind: u8, status: u8, verdict: u8, numbers: &[u8]) -> Option<Entry
     })
 }
 
+#[tactic(auto, using(crate::proofs::Chains::fields_at))]
 fn read_fields(line: &[u8]) -> Option<Entry>
     ensures { result ≡ fields_in line.now }
 {
@@ -110,11 +111,15 @@ fn put_numbers(places: &mut [u8], entry: &Entry)
     requires { length places.old ≡ 31 }
     ensures { places.new ≡ numbers_text entry.now.lot_size entry.now.units entry.now.tally }
 {
-    put_number(&mut places[0..8], entry.lot_size, b'\t');
-    put_number(&mut places[8..13], entry.units, b'\t');
-    put_number(&mut places[13..19], entry.tally.critical, b'\t');
-    put_number(&mut places[19..25], entry.tally.major, b'\t');
-    put_number(&mut places[25..31], entry.tally.minor, b'\n');
+    let (lot_size, rest) = places.split_at_mut(8);
+    let (units, rest) = rest.split_at_mut(5);
+    let (critical, rest) = rest.split_at_mut(6);
+    let (major, minor) = rest.split_at_mut(6);
+    put_number(lot_size, entry.lot_size, b'\t');
+    put_number(units, entry.units, b'\t');
+    put_number(critical, entry.tally.critical, b'\t');
+    put_number(major, entry.tally.major, b'\t');
+    put_number(minor, entry.tally.minor, b'\n');
 }
 
 fn put_letters(places: &mut [u8], entry: &Entry)
@@ -139,8 +144,9 @@ pub fn write_line(place: &mut [u8], entry: &Entry) -> bool
     if place.len() != LINE {
         return false;
     }
-    put_letters(&mut place[0..6], entry);
-    put_numbers(&mut place[6..37], entry);
+    let (letters, numbers) = place.split_at_mut(6);
+    put_letters(letters, entry);
+    put_numbers(numbers, entry);
     true
 }
 
