@@ -1,8 +1,8 @@
 -- Lines read back, and nothing else reads as an entry.
-use Rattle.std.proofs.Common.{◌≡◌, ℕ, ◌+◌, ◌^◌, ◌<◌, ◌≤◌, Bool, true, false, cond, ◌&&◌, eqb, ltb, leb, List, [], ◌∷◌, ◌++◌, length, get_or, take, drop, Some, None, Option, sym, refl, ap, ◌∙◌, subst, append_assoc, arith}
+use Rattle.std.proofs.Common.{◌≡◌, ℕ, ◌+◌, ◌^◌, ◌<◌, ◌≤◌, Bool, true, false, cond, List, [], ◌∷◌, ◌++◌, length, get_or, take, drop, Some, None, Option, sym, refl, ap, ◌∙◌, subst, append_assoc, arith}
 use Rattle.std.proofs.lemmas.List.{append-nil, length-append, length-take-le, take_at, drop_at, get_or_at, take-append-drop, drop_more, drop-drop}
 use Rattle.std.proofs.lemmas.Bool.Decides.{nat_tests}
-use Rattle.std.proofs.lemmas.Bool.{and_from, and_parts, lt-ltb, ltb-true, eq-eqb, eqb-true, leb-true, cond-true, both_ways}
+use Rattle.std.proofs.lemmas.Bool.{cond-true}
 use Rattle.decimals.specs.Digits.{numeral, padded}
 use Rattle.decimals.proofs.Writing.{length_padded, written_back, read_back}
 use Rattle.inspection.specs.Letters.{kind_letter, kind_of, status_letter, status_of, verdict_letter, verdict_of}
@@ -16,7 +16,7 @@ use Rattle.inspection.specs.declared.verdict.Verdict.TheVariants.{Accepted, Reje
 use Rattle.inspection.specs.declared.tally.Tally.{Tally}
 use Rattle.entries.specs.declared.entry.Entry.{Entry}
 use Rattle.entries.specs.declared.line.Numbers.{Numbers}
-use Rattle.entries.specs.Entries.{no_numbers, fits_fields, writable_as, writable, spoiled}
+use Rattle.entries.specs.Entries.{writable_as, writable, spoiled}
 use Rattle.entries.specs.Lines.{number_field, numbers_text, line_of, Read, then, closed_by, with_rest, number_at, ended, numbers_in, joint, tabs, fields_in, read_as, Long, ReadsBack, NoOther, ElseSpoiled}
 use Rattle.entries.proofs.Chains.{chained}
 
@@ -27,7 +27,7 @@ number_forth w n end rest some few lt =
     let long = length_padded w n in
     let bs = ds ++ end ∷ rest in
     let whole : number_field w n end ++ rest ≡ bs = append_assoc ds (end ∷ []) rest in
-    let closed : closed_by w end bs ≡ true = and_from _ _ (lt-ltb w (length bs) (omega (arith, length-append ds (end ∷ rest)))) (eq-eqb (get_or bs w 0) end (get_or_at ds end rest 0 w long)) in
+    let closed : closed_by w end bs ≡ true = grind (arith, nat_tests, length-append ds (end ∷ rest), get_or_at ds end rest 0 w long, long) in
     let front : numeral (take w bs) ≡ Some n = ap numeral (take_at ds (end ∷ rest) w long) ∙ written_back w n some few lt in
     let back : drop (w + 1) bs ≡ rest = sym (drop-drop 1 w bs) ∙ ap (drop 1) (drop_at ds (end ∷ rest) w long) in
     sym (ap (number_at w end) whole ∙ cond-true _ _ _ closed ∙ ap (with_rest (drop (w + 1) bs)) front ∙ ap (λ r. Some (n, r)) back)
@@ -41,9 +41,8 @@ number_back w end bs p e = by (closed_by w end bs) refl (numeral (take w bs)) re
     by true c None r e = cc
     by true c (Some n) r e =
         let same : ◌≡◌ {A = ℕ × List ℕ} (n, drop (w + 1) bs) p = cc in
-        let parts = and_parts (ltb w (length bs)) _ c in
-        let lt = ltb-true w (length bs) parts.0 in
-        let at = eqb-true (get_or bs w 0) end parts.1 in
+        let lt : w < length bs = grind (arith, nat_tests, c) in
+        let at : get_or bs w 0 ≡ end = grind (arith, nat_tests, c) in
         let long = length-take-le w bs (omega arith) in
         let digits : take w bs ≡ padded w n = (read_back (take w bs) n r).1 ∙ ap (λ k. padded k n) long in
         subst (λ (q : ℕ × List ℕ). bs ≡ number_field w q.0 end ++ q.1) same
@@ -109,28 +108,11 @@ pub record Fits (e : Entry) : Type 0 where
   pub major : e.tally.major ≤ 99999
   pub minor : e.tally.minor ≤ 99999
 
-fields_fit : (e : Entry) → fits_fields e ≡ true → Fits e
-fields_fit e h = record { lot = grind (arith, nat_tests); few = grind (arith, nat_tests); critical = grind (arith, nat_tests); major = grind (arith, nat_tests); minor = grind (arith, nat_tests) }
-
-nothing_fits : (e : Entry) → no_numbers e ≡ true → Fits e
-nothing_fits e h = record { lot = grind (arith, nat_tests); few = grind (arith, nat_tests); critical = grind (arith, nat_tests); major = grind (arith, nat_tests); minor = grind (arith, nat_tests) }
-
 writable_fits : (k : Kind) (e : Entry) → writable_as k e ≡ true → Fits e
-writable_fits PeriodOpened e h = nothing_fits e (and_parts (no_numbers e) _ h).0
-writable_fits Portion e h = fields_fit e (and_parts (eqb e.lot_size 0) _ h).1
-writable_fits PeriodEnded e h = nothing_fits e h
-writable_fits Lot e h = fields_fit e h
-writable_fits SecondSample e h = fields_fit e h
-writable_fits Relief e h = nothing_fits e (and_parts (no_numbers e) _ h).0
-writable_fits IrregularNotice e h = nothing_fits e (and_parts (no_numbers e) _ h).0
-writable_fits Spoiled e h = cc
+writable_fits k e h = record { lot = grind (arith, nat_tests); few = grind (arith, nat_tests); critical = grind (arith, nat_tests); major = grind (arith, nat_tests); minor = grind (arith, nat_tests) }
 
 fields_forth : (e : Entry) → Fits e → fields_in (line_of e) ≡ Some e
-fields_forth e f =
-    ap (λ k. joint k (status_of (status_letter e.status)) (verdict_of (verdict_letter e.verdict)) (numbers_in (numbers_text e.lot_size e.units e.tally))) (kind_forth e.kind)
-    ∙ ap (λ s. joint (Some e.kind) s (verdict_of (verdict_letter e.verdict)) (numbers_in (numbers_text e.lot_size e.units e.tally))) (status_forth e.status)
-    ∙ ap (λ v. joint (Some e.kind) (Some e.status) v (numbers_in (numbers_text e.lot_size e.units e.tally))) (verdict_forth e.verdict)
-    ∙ ap (joint (Some e.kind) (Some e.status) (Some e.verdict)) (numbers_forth e.lot_size e.units e.tally f.lot f.few f.critical f.major f.minor)
+fields_forth e f = simp (kind_forth, status_forth, verdict_forth, numbers_forth e.lot_size e.units e.tally f.lot f.few f.critical f.major f.minor)
 
 pub reads_back : ReadsBack
 reads_back e h = ap read_as (fields_forth e (writable_fits e.kind e h)) ∙ cond-true (writable e) e spoiled h
@@ -153,11 +135,9 @@ fields_back (k ∷ a ∷ s ∷ b ∷ v ∷ c ∷ bs) e h = by (tabs a b c) refl 
     by true t (Some x) ko (Some y) sp (Some z) vq None nn h = cc
     by true t (Some x) ko (Some y) sp (Some z) vq (Some m) nn h =
         let same : ◌≡◌ {A = Entry} (record { kind = x; status = y; verdict = z; lot_size = m.lot_size; units = m.units; tally = m.tally }) e = cc in
-        let marks = and_parts (eqb a 9 && eqb b 9) _ t in
-        let pair = and_parts (eqb a 9) _ marks.0 in
-        let first = eqb-true a 9 pair.0 in
-        let second = eqb-true b 9 pair.1 in
-        let third = eqb-true c 9 marks.1 in
+        let first : a ≡ 9 = grind (arith, nat_tests, t) in
+        let second : b ≡ 9 = grind (arith, nat_tests, t) in
+        let third : c ≡ 9 = grind (arith, nat_tests, t) in
         let kind = sym (lettered_back kind_letter (PeriodOpened ∷ Portion ∷ PeriodEnded ∷ Lot ∷ SecondSample ∷ Relief ∷ IrregularNotice ∷ Spoiled ∷ []) k x ko) in
         let status = sym (lettered_back status_letter (Normal ∷ Tightened ∷ Reduced ∷ []) s y sp) in
         let verdict = sym (lettered_back verdict_letter (Accepted ∷ Rejected ∷ Awaited ∷ Full ∷ Brief ∷ Undecided ∷ []) v z vq) in
