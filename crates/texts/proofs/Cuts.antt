@@ -149,22 +149,9 @@ numbered_after n (l ∷ ls) (suc k) p lt = numbered_after (n + 1) ls k p (omega 
 pub numbered : (text : List ℕ) → Numbered text
 numbered text k p lt = numbered_after 0 (lines text) k p lt ∙ omega arith
 
-few_onto : (b : ℕ) (ls : List (List ℕ)) → length (onto b ls) ≤ length ls + 1
-few_onto b [] = omega arith
-few_onto b (l ∷ ls) = omega arith
-
-few_lines : (bs : List ℕ) → length (lines bs) ≤ length bs
-few_lines [] = omega arith
-few_lines (b ∷ bs) = by (eqb b 10) (few_lines bs)
-  where
-    by : (t : Bool) → length (lines bs) ≤ length bs → length (cond t ((b ∷ []) ∷ lines bs) (onto b (lines bs))) ≤ suc (length bs)
-    by true h = omega arith
-    by false h = omega (arith, few_onto b (lines bs))
-
-length_after : (n : ℕ) (ls : List (List ℕ)) → length (after n ls) ≡ length ls
-length_after n [] = refl
-length_after n (l ∷ ls) = ap suc (length_after (n + 1) ls)
-
--- a text has no more lines than bytes
-pub few_pieces : (text : List ℕ) → length (pieces text) ≤ length text
-few_pieces text = omega (arith, length_after 0 (lines text), few_lines text)
+-- the first of the pieces that follow n lines has the next number, and the others follow it
+pub after_next : (n : ℕ) (ls : List (List ℕ)) (p : Piece) (ps : List Piece) → after n ls ≡ p ∷ ps → (number_of p ≡ n + 1) × ((ms : List (List ℕ)) × (ps ≡ after (n + 1) ms))
+after_next n [] p ps e = cc
+after_next n (l ∷ ls) p ps e =
+    let first : piece (n + 1) l ≡ p = cc in
+    (ap number_of (sym first) ∙ number_of_piece (n + 1) l (parted l), (ls, cc))
