@@ -1,7 +1,7 @@
 // Scores one worksheet that comes on standard input: `score 25 < sheet`, where 25 is the number of units in the sample.
 #![tactic(auto)]
 
-use anyhow::anyhow;
+use anyhow::{anyhow, ensure};
 use std::env;
 use std::io::Read;
 use worksheet::scoring::{Scored, read};
@@ -17,19 +17,12 @@ const USAGE: &str =
 
 // The number of units that the argument gives.
 fn sample_units(rt: &HostRuntime) -> anyhow::Result<u32> {
-    let mut units = USUAL_UNITS;
-    for (i, arg) in env::args(rt)?.enumerate() {
-        match i {
-            0 => {}
-            1 => {
-                units = match arg.as_str().parse::<u32>() {
-                    Ok(units) => units,
-                    Err(_) => return Err(anyhow!("{USAGE}")),
-                }
-            }
-            _ => return Err(anyhow!("{USAGE}")),
-        }
-    }
+    let mut args = env::args(rt)?.skip(1);
+    let units = match args.next() {
+        Some(arg) => arg.as_str().parse().map_err(|_| anyhow!("{USAGE}"))?,
+        None => USUAL_UNITS,
+    };
+    ensure!(args.next().is_none(), "{USAGE}");
     Ok(units)
 }
 
@@ -64,18 +57,14 @@ fn print_scored(rt: &HostRuntime, units: u32, scored: Scored) -> anyhow::Result<
     Ok(())
 }
 
-fn run(rt: &HostRuntime) -> anyhow::Result<()> {
-    let units = sample_units(rt)?;
-    let sheet = read_input(rt)?;
+fn main(rt: HostRuntime) -> anyhow::Result<()> {
+    let units = sample_units(&rt)?;
+    let sheet = read_input(&rt)?;
     match read(&sheet, units) {
-        Ok(scored) => print_scored(rt, units, scored),
+        Ok(scored) => print_scored(&rt, units, scored),
         Err(refusal) => {
             println!(rt; "{refusal}")?;
             Err(anyhow!("the sheet is refused"))
         }
     }
-}
-
-fn main(rt: HostRuntime) -> anyhow::Result<()> {
-    run(&rt)
 }
