@@ -9,9 +9,6 @@ use worksheet::scoring::{Scored, read};
 // A portion's sample on normal inspection.
 const USUAL_UNITS: u32 = 25;
 
-// How many bytes are read at a time.
-const PART: usize = 65536;
-
 const USAGE: &str =
     "score takes one argument at most: the number of units in the sample, as in `score 25 < sheet`";
 
@@ -26,23 +23,9 @@ fn sample_units(rt: &HostRuntime) -> anyhow::Result<u32> {
     Ok(units)
 }
 
-// All of standard input, a large part at a time.
 fn read_input(rt: &HostRuntime) -> anyhow::Result<Vec<u8>> {
-    let heap = rt.alloc();
-    let mut input = Vec::new(heap);
-    let mut part = vec![in heap; 0u8; PART]?;
-    let mut stdin = rt.stdin();
-    for _ in 0..u64::MAX {
-        let n = stdin.read(&mut part)?;
-        if n == 0 {
-            break;
-        }
-        // Growing copies what is there, so it is done seldom.
-        if input.capacity() - input.len() < n {
-            input.reserve(input.len().saturating_mul(3).max(n))?;
-        }
-        input.extend_from_slice(&part[0..n])?;
-    }
+    let mut input = Vec::new(rt.alloc());
+    rt.stdin().read_to_end(&mut input)?;
     Ok(input)
 }
 
