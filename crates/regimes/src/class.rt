@@ -13,16 +13,22 @@ pub enum JudgedClass {
 }
 
 impl JudgedClass {
+    pub const ALL: [JudgedClass; 3] = [
+        JudgedClass::Critical,
+        JudgedClass::Major,
+        JudgedClass::Total,
+    ];
+
     // How many defects of the class the tally has.
     pub fn count(self, tally: &Tally) -> u64
         ensures value { result ≡ count_of self tally.now }
         ensures few { result < 3 * 2 ^ 32 }
     {
         match self {
-            JudgedClass::Critical => tally.critical as u64,
-            JudgedClass::Major => tally.major as u64,
+            JudgedClass::Critical => u64::from(tally.critical),
+            JudgedClass::Major => u64::from(tally.major),
             JudgedClass::Total => {
-                tally.critical as u64 + tally.major as u64 + tally.minor as u64
+                u64::from(tally.critical) + u64::from(tally.major) + u64::from(tally.minor)
             }
         }
     }

@@ -1,7 +1,6 @@
 // The table of portions: what each class tolerates on each status, and the value that runs along with it.
 ghost use Rattle.std.specs.Prelude.{◌≡◌, ◌≤◌};
-ghost use Rattle.inspection.specs.Statuses.{rank};
-ghost use Rattle.regimes.specs.Portions.{class_place, cusum_of, value_of};
+ghost use Rattle.regimes.specs.Portions.{cusum_of, value_of};
 
 use crate::class::JudgedClass;
 use inspection::status::Status;
@@ -72,32 +71,12 @@ const TABLE: [[Cusum; 3]; 3] = [
     ],
 ];
 
-fn row_of(class: JudgedClass) -> usize
-    ensures { result ≡ class_place class }
-{
-    match class {
-        JudgedClass::Critical => 0,
-        JudgedClass::Major => 1,
-        JudgedClass::Total => 2,
-    }
-}
-
-fn column_of(status: Status) -> usize
-    ensures { result ≡ rank status }
-{
-    match status {
-        Status::Normal => 0,
-        Status::Tightened => 1,
-        Status::Reduced => 2,
-    }
-}
-
 impl Cusum {
     pub fn of(class: JudgedClass, status: Status) -> Cusum
         ensures entry { result ≡ cusum_of class status }
         ensures within { result.start ≤ result.limit }
     {
-        TABLE[row_of(class)][column_of(status)]
+        TABLE[class as usize][status as usize]
     }
 }
 

@@ -13,43 +13,52 @@ use inspection::verdict::Verdict;
 #[derive(Clone, Copy)]
 pub struct OnLine;
 
-// The value of the class after a portion, before it is held. It stops at 0.
-fn value_reached(status: Status, tally: &Tally, values: &Values, class: JudgedClass) -> u64
-    ensures { result ≡ value_reached status tally.now values.now class }
-{
-    let cusum = Cusum::of(class, status);
-    (values.of(class) as u64 + 100 * class.count(tally)).saturating_sub(cusum.tolerance as u64)
+// A portion under judgement, with the values before it.
+#[derive(Clone, Copy)]
+struct Portion {
+    status: Status,
+    tally: Tally,
+    values: Values,
 }
 
-fn is_over(status: Status, tally: &Tally, values: &Values, class: JudgedClass) -> bool
-    ensures { result ≡ is_over status tally.now values.now class }
-{
-    value_reached(status, tally, values, class) > Cusum::of(class, status).limit as u64
-}
+impl Portion {
+    // The value of the class after the portion, before it is held. It stops at 0.
+    fn reached(&self, class: JudgedClass) -> u64
+        ensures { result ≡ value_reached self.now.status self.now.tally self.now.values class }
+    {
+        let cusum = Cusum::of(class, self.status);
+        (u64::from(self.values.of(class)) + 100 * class.count(&self.tally))
+            .saturating_sub(u64::from(cusum.tolerance))
+    }
 
-// The value that is carried on: the one reached, held at the limit.
-fn value_held(status: Status, tally: &Tally, values: &Values, class: JudgedClass) -> u32
-    ensures { result ≡ value_held status tally.now values.now class }
-{
-    let limit = Cusum::of(class, status).limit;
-    value_reached(status, tally, values, class).min(limit as u64) as u32
-}
+    fn is_over(&self, class: JudgedClass) -> bool
+        ensures { result ≡ is_over self.now.status self.now.tally self.now.values class }
+    {
+        self.reached(class) > u64::from(Cusum::of(class, self.status).limit)
+    }
 
-fn some_over(status: Status, tally: &Tally, values: &Values) -> bool
-    ensures { result ≡ some_class (is_over status tally.now values.now) }
-{
-    is_over(status, tally, values, JudgedClass::Critical)
-        || is_over(status, tally, values, JudgedClass::Major)
-        || is_over(status, tally, values, JudgedClass::Total)
-}
+    // The value that is carried on: the one reached, held at the limit.
+    fn held(&self, class: JudgedClass) -> u32
+        ensures { result ≡ value_held self.now.status self.now.tally self.now.values class }
+    {
+        let limit = Cusum::of(class, self.status).limit;
+        self.reached(class).min(u64::from(limit)) as u32
+    }
 
-fn values_held(status: Status, tally: &Tally, values: &Values) -> Values
-    ensures { result ≡ values_by (value_held status tally.now values.now) }
-{
-    Values {
-        critical: value_held(status, tally, values, JudgedClass::Critical),
-        major: value_held(status, tally, values, JudgedClass::Major),
-        total: value_held(status, tally, values, JudgedClass::Total),
+    fn some_over(&self) -> bool
+        ensures { result ≡ some_class (is_over self.now.status self.now.tally self.now.values) }
+    {
+        JudgedClass::ALL.iter().any(|class| self.is_over(*class))
+    }
+
+    fn values_held(&self) -> Values
+        ensures { result ≡ values_by (value_held self.now.status self.now.tally self.now.values) }
+    {
+        Values {
+            critical: self.held(JudgedClass::Critical),
+            major: self.held(JudgedClass::Major),
+            total: self.held(JudgedClass::Total),
+        }
     }
 }
 
@@ -66,12 +75,17 @@ impl Judge for OnLine {
         tally: Tally,
         carried: Values,
     ) -> (Verdict, Values) {
-        let verdict = if some_over(status, &tally, &carried) {
+        let portion = Portion {
+            status,
+            tally,
+            values: carried,
+        };
+        let verdict = if portion.some_over() {
             Verdict::Rejected
         } else {
             Verdict::Accepted
         };
-        (verdict, values_held(status, &tally, &carried))
+        (verdict, portion.values_held())
     }
 }
 
