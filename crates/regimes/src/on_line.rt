@@ -1,7 +1,8 @@
 // The on-line regime: portions of production, judged by three running values.
-ghost use Rattle.std.specs.Prelude.{◌≡◌};
+ghost use Rattle.std.specs.Prelude.{◌≡◌, refl};
 ghost use Rattle.regimes.specs.Classes.{some_class};
 ghost use Rattle.regimes.specs.Portions.{value_reached, is_over, value_held, values_by, portion_judged, on_line_rules};
+ghost use Rattle.regimes.specs.declared.class.JudgedClass.TheVariants.{Critical, Major, Total};
 
 use crate::class::JudgedClass;
 use crate::cusum::{Cusum, Values};
@@ -12,6 +13,20 @@ use inspection::verdict::Verdict;
 
 #[derive(Clone, Copy)]
 pub struct OnLine;
+
+// The value of each class, by what gives it.
+fn values_by<F: Fn(JudgedClass) -> u32>(value: F) -> Values
+    requires { F.IsAlwaysCallable value }
+    ensures critical { F.post value Critical result.critical }
+    ensures major { F.post value Major result.major }
+    ensures total { F.post value Total result.total }
+{
+    Values {
+        critical: value(JudgedClass::Critical),
+        major: value(JudgedClass::Major),
+        total: value(JudgedClass::Total),
+    }
+}
 
 // A portion under judgement, with the values before it.
 #[derive(Clone, Copy)]
@@ -27,8 +42,9 @@ impl Portion {
         ensures { result ≡ value_reached self.now.status self.now.tally self.now.values class }
     {
         let cusum = Cusum::of(class, self.status);
-        (u64::from(self.values.of(class)) + 100 * class.count(&self.tally))
-            .saturating_sub(u64::from(cusum.tolerance))
+        (u64::from(self.values.of(class)) + 100 * class.count(&self.tally)).saturating_sub(
+            u64::from(cusum.tolerance),
+        )
     }
 
     fn is_over(&self, class: JudgedClass) -> bool
@@ -54,18 +70,14 @@ impl Portion {
     fn values_held(&self) -> Values
         ensures { result ≡ values_by (value_held self.now.status self.now.tally self.now.values) }
     {
-        Values {
-            critical: self.held(JudgedClass::Critical),
-            major: self.held(JudgedClass::Major),
-            total: self.held(JudgedClass::Total),
-        }
+        values_by(|class| self.held(class))
     }
 }
 
 impl Judge for OnLine {
     type Carried = Values;
 
-    ghost judged = { λ _ s size t v. portion_judged s t v };
+    ghost judged = { λ _. on_line_rules.judged };
 
     // The values that are compared are the ones reached; they are held afterwards.
     fn judge(
@@ -90,30 +102,22 @@ impl Judge for OnLine {
 }
 
 impl Regime for OnLine {
+    ghost WINDOW = { 40 };
+
     const WINDOW: u32 = 40;
+
+    ghost CAP = { 1 };
 
     const CAP: u32 = 1;
 
     ghost rules = { λ _. on_line_rules };
-
-    fn window_length(&self) -> u32 {
-        Self::WINDOW
-    }
-
-    fn most_rejected(&self) -> u32 {
-        Self::CAP
-    }
 
     fn judges_portions(&self) -> bool {
         true
     }
 
     fn starting(&self, status: Status) -> Values {
-        Values {
-            critical: Cusum::of(JudgedClass::Critical, status).start,
-            major: Cusum::of(JudgedClass::Major, status).start,
-            total: Cusum::of(JudgedClass::Total, status).start,
-        }
+        values_by(|class| Cusum::of(class, status).start)
     }
 
     fn sample_units(&self, status: Status, lot_size: u32, carried: Values) -> Option<u32> {
@@ -132,13 +136,9 @@ impl Regime for OnLine {
         })
     }
 
-    fn decide(
-        &self,
-        status: Status,
-        lot_size: u32,
-        tally: Tally,
-        carried: Values,
-    ) -> (Verdict, Values) {
-        self.judge(status, lot_size, tally, carried)
-    }
+    ghost window_ruled = { λ _. refl };
+
+    ghost cap_ruled = { λ _. refl };
+
+    ghost judged_as_ruled = { λ _ s size t carried. refl };
 }
