@@ -8,8 +8,8 @@ use Rattle.inspection.specs.declared.verdict.Verdict.TheVariants.{Accepted, Reje
 use Rattle.plans.specs.declared.rows.LotRow.{LotRow}
 use Rattle.regimes.specs.Portions.{value_reached, values_after, verdicts_of}
 use Rattle.regimes.specs.Lots.{lot_judged}
-use Rattle.regimes.specs.declared.class.JudgedClass.{JudgedClass}
-use Rattle.regimes.specs.declared.class.JudgedClass.TheVariants.{Critical, Major}
+use Rattle.inspection.specs.declared.class.JudgedClass.{JudgedClass}
+use Rattle.inspection.specs.declared.class.JudgedClass.TheVariants.{Critical, Major}
 
 abbrev pub critical_alone : ℕ → Tally
 critical_alone n = record { critical = n; major = 0; minor = 0 }
@@ -36,9 +36,11 @@ marked_row s lowest first whole =
       lowest_size = lowest;
       first_sample = first;
       total_sample = whole;
-      critical = record { accept_first = 0; reject_first = 3; accept_both = 3 };
-      major = record { accept_first = 5; reject_first = 7; accept_both = 8 };
-      total = record { accept_first = 5; reject_first = 7; accept_both = 8 };
+      numbers = record {
+        critical = record { accept_first = 0; reject_first = 3; accept_both = 3 };
+        major = record { accept_first = 5; reject_first = 7; accept_both = 8 };
+        total = record { accept_first = 5; reject_first = 7; accept_both = 8 };
+      };
     }
 
 pub record EightCases : Type 0 where

@@ -1,8 +1,8 @@
 // The table of portions: what each class tolerates on each status, and the value that runs along with it.
 ghost use Rattle.std.specs.Prelude.{◌≡◌, ◌≤◌};
-ghost use Rattle.regimes.specs.Portions.{cusum_of, value_of};
+ghost use Rattle.regimes.specs.Portions.{cusum_of};
 
-use crate::class::JudgedClass;
+use inspection::class::{JudgedClass, PerClass};
 use inspection::status::Status;
 
 // In hundredths of a defect.
@@ -81,21 +81,4 @@ impl Cusum {
 }
 
 // The running value of each class.
-#[derive(Clone, Copy, PartialEq, Eq, Debug)]
-pub struct Values {
-    pub critical: u32,
-    pub major: u32,
-    pub total: u32,
-}
-
-impl Values {
-    pub fn of(&self, class: JudgedClass) -> u32
-        ensures { result ≡ value_of self.now class }
-    {
-        match class {
-            JudgedClass::Critical => self.critical,
-            JudgedClass::Major => self.major,
-            JudgedClass::Total => self.total,
-        }
-    }
-}
+pub type Values = PerClass<u32>;

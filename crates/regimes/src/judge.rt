@@ -5,17 +5,13 @@ ghost use Rattle.inspection.specs.declared.tally.Tally.{Tally as Counts};
 ghost use Rattle.inspection.specs.declared.verdict.Verdict.{Verdict as Answer};
 ghost use Rattle.regimes.specs.Rules.{Rules};
 
+use inspection::class::PerClass;
 use inspection::status::Status;
 use inspection::tally::Tally;
 use inspection::verdict::Verdict;
 
 // The most defects that relief allows.
-#[derive(Clone, Copy, PartialEq, Eq, Debug)]
-pub struct Limits {
-    pub critical: u32,
-    pub major: u32,
-    pub total: u32,
-}
+pub type Limits = PerClass<u32>;
 
 pub trait Judge {
     // What is carried from one sample to the next.

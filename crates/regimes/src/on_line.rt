@@ -1,12 +1,12 @@
 // The on-line regime: portions of production, judged by three running values.
 ghost use Rattle.std.specs.Prelude.{◌≡◌, refl};
-ghost use Rattle.regimes.specs.Classes.{some_class};
-ghost use Rattle.regimes.specs.Portions.{value_reached, is_over, value_held, values_by, portion_judged, on_line_rules};
-ghost use Rattle.regimes.specs.declared.class.JudgedClass.TheVariants.{Critical, Major, Total};
+ghost use Rattle.inspection.specs.Classes.{by_class, some_class};
+ghost use Rattle.regimes.specs.Portions.{value_reached, is_over, value_held, portion_judged, on_line_rules};
+ghost use Rattle.inspection.specs.declared.class.JudgedClass.TheVariants.{Critical, Major, Total};
 
-use crate::class::JudgedClass;
 use crate::cusum::{Cusum, Values};
 use crate::judge::{Judge, Limits, Regime};
+use inspection::class::{JudgedClass, PerClass};
 use inspection::status::Status;
 use inspection::tally::Tally;
 use inspection::verdict::Verdict;
@@ -21,7 +21,7 @@ fn values_by<F: Fn(JudgedClass) -> u32>(value: F) -> Values
     ensures major { F.post value Major result.major }
     ensures total { F.post value Total result.total }
 {
-    Values {
+    PerClass {
         critical: value(JudgedClass::Critical),
         major: value(JudgedClass::Major),
         total: value(JudgedClass::Total),
@@ -68,7 +68,7 @@ impl Portion {
     }
 
     fn values_held(&self) -> Values
-        ensures { result ≡ values_by (value_held self.now.status self.now.tally self.now.values) }
+        ensures { result ≡ by_class (value_held self.now.status self.now.tally self.now.values) }
     {
         values_by(|class| self.held(class))
     }
@@ -129,7 +129,7 @@ impl Regime for OnLine {
     }
 
     fn relief_limits(&self, units: u64) -> Option<Limits> {
-        Some(Limits {
+        Some(PerClass {
             critical: 0,
             major: 9,
             total: 54,

@@ -1,16 +1,16 @@
 // The stationary regime: lots, judged by one or two samples and the rows of a plan book.
 ghost use Rattle.std.specs.Prelude.{◌≡◌, refl, true, IfSome};
 ghost use Rattle.plans.specs.Plans.{lot_row_kept};
-ghost use Rattle.regimes.specs.Classes.{count_of, each_class, some_class};
-ghost use Rattle.regimes.specs.Lots.{row_of_lot, numbers_of, added, accepts_first, rejects_first, accepts_both, first_judged, both_judged, stationary_rules};
+ghost use Rattle.inspection.specs.Classes.{count_of, each_class, some_class};
+ghost use Rattle.regimes.specs.Lots.{row_of_lot, added, accepts_first, rejects_first, accepts_both, first_judged, both_judged, stationary_rules};
 
-use crate::class::JudgedClass;
 use crate::judge::{Judge, Limits, Regime};
+use inspection::class::JudgedClass;
 use inspection::status::Status;
 use inspection::tally::Tally;
 use inspection::verdict::Verdict;
 use plans::plan_book::PlanBook;
-use plans::rows::{ClassNumbers, LotRow};
+use plans::rows::LotRow;
 
 // No lot is larger.
 pub const LARGEST_LOT: u32 = 9_999_999;
@@ -46,28 +46,18 @@ impl Stationary {
     }
 }
 
-fn numbers_of(row: &LotRow, class: JudgedClass) -> ClassNumbers
-    ensures { result ≡ numbers_of row.now class }
-{
-    match class {
-        JudgedClass::Critical => row.critical,
-        JudgedClass::Major => row.major,
-        JudgedClass::Total => row.total,
-    }
-}
-
 fn all_accept_first(row: &LotRow, tally: &Tally) -> bool
     ensures { result ≡ each_class (accepts_first row.now tally.now) }
 {
     JudgedClass::ALL.iter().all(|class| class.count(tally)
-        <= u64::from(numbers_of(row, *class).accept_first))
+        <= u64::from(row.numbers.of(*class).accept_first))
 }
 
 fn some_reject_first(row: &LotRow, tally: &Tally) -> bool
     ensures { result ≡ some_class (rejects_first row.now tally.now) }
 {
     JudgedClass::ALL.iter().any(|class| class.count(tally)
-        >= u64::from(numbers_of(row, *class).reject_first))
+        >= u64::from(row.numbers.of(*class).reject_first))
 }
 
 // In both samples together, added as wide numbers: any two counts have a sum.
@@ -81,7 +71,7 @@ fn all_accept_both(row: &LotRow, first: &Tally, second: &Tally) -> bool
     ensures { result ≡ each_class (accepts_both row.now (added first.now second.now)) }
 {
     JudgedClass::ALL.iter().all(|class| {
-        count_in_both(*class, first, second) <= u64::from(numbers_of(row, *class).accept_both)
+        count_in_both(*class, first, second) <= u64::from(row.numbers.of(*class).accept_both)
     })
 }
 
@@ -158,12 +148,7 @@ impl Regime for Stationary {
     }
 
     fn relief_limits(&self, units: u64) -> Option<Limits> {
-        let row = self.plan.wide_relief_limits(units)?;
-        Some(Limits {
-            critical: row.critical,
-            major: row.major,
-            total: row.total,
-        })
+        self.plan.relief_limits(units).map(|row| row.limits)
     }
 
     ghost window_ruled = { λ _. refl };
