@@ -5,13 +5,11 @@ use Rattle.inspection.specs.declared.tally.Tally.{Tally}
 use Rattle.inspection.specs.declared.verdict.Verdict.{Verdict}
 use Rattle.inspection.specs.declared.verdict.Verdict.TheVariants.{Accepted, Rejected, Awaited}
 use Rattle.plans.specs.Finding.{row_for, limits_for}
-use Rattle.plans.specs.declared.rows.ClassNumbers.{ClassNumbers}
 use Rattle.plans.specs.declared.rows.LotRow.{LotRow}
 use Rattle.plans.specs.declared.rows.LimitRow.{LimitRow}
 use Rattle.inspection.specs.Classes.{count_of, some_class, each_class, at_class}
 use Rattle.regimes.specs.Rules.{Rules}
 use Rattle.inspection.specs.declared.class.JudgedClass.{JudgedClass}
-use Rattle.inspection.specs.declared.class.JudgedClass.TheVariants.{Critical, Major, Total}
 
 -- the row for a lot: none for a lot of more than 9,999,999
 abbrev pub row_of_lot : Status → ℕ → List LotRow → Option LotRow
