@@ -1,8 +1,8 @@
 -- Fields of a plan line, one after another.
-use Rattle.std.proofs.Common.{◌≡◌, ℕ, ◌+◌, ◌-◌, ◌≤◌, eqb, List, [], ◌∷◌, length, get_or, take, drop, Some, None, Option, sym, refl, ap, ◌∙◌, add-one, arith}
-use native.Mathlib.Nat.{sub-zero}
+use Rattle.std.proofs.Common.{◌≡◌, ℕ, ◌+◌, ◌-◌, ◌≤◌, Bool, eqb, ne_eqb, List, [], ◌∷◌, length, get_or, take, drop, Some, None, Option, sym, refl, ap, ◌∙◌, add-one, arith}
 use Rattle.std.proofs.lemmas.List.{take_rest}
 use Rattle.std.proofs.lemmas.Bool.{eq-eqb, cond-true}
+use Rattle.std.specs.Bool.{then_some}
 use Rattle.std.specs.Option.{option_map}
 use Rattle.decimals.specs.Digits.{number, clipped}
 use Rattle.inspection.specs.Letters.{status_of}
@@ -25,19 +25,16 @@ with_rest_by : (rest : List ℕ) (o : Option ℕ) (r : Option ℕ) → r ≡ opt
 with_rest_by rest None r e = ap (λ q. elim q [ Some n ↦ Some (n, rest) | None ↦ None ]) (sym e)
 with_rest_by rest (Some n) r e = ap (λ q. elim q [ Some n ↦ Some (n, rest) | None ↦ None ]) (sym e)
 
-pub no_number : (x : ℕ) (bs : List ℕ) (i : ℕ) → FirstAt x i bs → None ≡ option_map clipped (number (take (i - 0) bs)) → number_to x bs ≡ None
-no_number x bs i f e = number_cut x bs i f ∙ with_rest_by (drop (i + 1) bs) (number (take i bs)) None (rw sub-zero at e)
+pub no_number : (x : ℕ) (bs : List ℕ) (i : ℕ) → FirstAt x i bs → None ≡ option_map clipped (number (take i bs)) → number_to x bs ≡ None
+no_number x bs i f e = number_cut x bs i f ∙ with_rest_by (drop (i + 1) bs) (number (take i bs)) None e
 
-pub one_number : (x : ℕ) (bs : List ℕ) (i n : ℕ) → FirstAt x i bs → Some n ≡ option_map clipped (number (take (i - 0) bs)) → number_to x bs ≡ Some (n, take (length bs - (i + 1)) (drop (i + 1) bs))
-one_number x bs i n f e = rw (take_rest bs (i + 1)) (number_cut x bs i f ∙ with_rest_by (drop (i + 1) bs) (number (take i bs)) (Some n) (rw sub-zero at e))
+pub one_number : (x : ℕ) (bs : List ℕ) (i n : ℕ) → FirstAt x i bs → Some n ≡ option_map clipped (number (take i bs)) → number_to x bs ≡ Some (n, take (length bs - (i + 1)) (drop (i + 1) bs))
+one_number x bs i n f e = rw (take_rest bs (i + 1)) (number_cut x bs i f ∙ with_rest_by (drop (i + 1) bs) (number (take i bs)) (Some n) e)
 
-pub more_follows : {X : Type 0} (bs : List ℕ) (x : X) → (length bs ≡ 0 → ⊥) → at_end bs x ≡ None
-more_follows [] x f = absurd (f refl)
-more_follows (b ∷ bs) x f = refl
-
-pub nothing_follows : {X : Type 0} (bs : List ℕ) (x : X) → length bs ≡ 0 → at_end bs x ≡ Some x
-nothing_follows [] x e = refl
-nothing_follows (b ∷ bs) x e = absurd (omega arith)
+-- what is read where nothing follows
+pub at_end_then : {X : Type 0} (bs : List ℕ) (x : X) (t : Bool) → t ≡ eqb (length bs) 0 → then_some t x ≡ at_end bs x
+at_end_then [] x t e = ap (λ b. then_some b x) e
+at_end_then (b ∷ bs) x t e = ap (λ b. then_some b x) (e ∙ ne_eqb (length (b ∷ bs)) 0 (omega arith))
 
 -- a status letter and a tab stand before the row
 pub lot_in_by : (bs : List ℕ) (s : Status) (r : Option LotRow) → 2 ≤ length bs → get_or bs 1 0 ≡ 9 → Some s ≡ status_of (get_or bs 0 0) → r ≡ lot_row_in s (take (length bs - 2) (drop 2 bs)) → r ≡ lot_in bs

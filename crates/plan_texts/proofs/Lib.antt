@@ -1,3 +1,3 @@
+pub mod Three
 pub mod Fields
 pub mod PlanReading
-pub mod Counting

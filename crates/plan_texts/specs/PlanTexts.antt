@@ -1,5 +1,5 @@
 -- What a plan text says: its first bad line, or its rows.
-use Rattle.std.specs.Prelude.{◌≡◌, ℕ, Bool, true, false, cond, List, [], ◌∷◌, Some, None, Ok, Err, vec_items, Option, Result}
+use Rattle.std.specs.Prelude.{◌≡◌, ℕ, Bool, true, false, cond, List, [], ◌∷◌, Some, None, Ok, Err, vec_items, Option, Result, codes}
 use Rattle.inspection.specs.declared.refusal.Refusal.{Refusal}
 use Rattle.inspection.specs.declared.refusal.Refusal.TheVariants.{PlanLineNotOfForm, PlanBoundBroken, PlanRowOutOfOrder, PlanRowCountsWrong}
 use Rattle.texts.specs.Pieces.{Piece, number_of, pieces}
@@ -12,6 +12,11 @@ use Rattle.plan_texts.specs.declared.row.Row.{Row}
 use Rattle.plan_texts.specs.declared.row.Row.TheVariants.{Lot, Limit}
 use Rattle.plans.specs.Plans.{lot_row_kept, limit_row_kept, lot_row_follows, limit_row_follows, counts_kept}
 use Rattle.plan_texts.specs.RowLines.{row_of}
+
+-- how people are told of want of memory; a refusal has words of its own
+abbrev pub told : PlanError → Option (List ℕ)
+told (Refused r) = None
+told NoMemory = Some (codes "no memory for the plan")
 
 abbrev pub row_kept : Row → Bool
 row_kept (Lot r) = lot_row_kept r

@@ -2,6 +2,7 @@
 use Rattle.std.specs.Prelude.{ℕ, Bool, false, cond, List, [], ◌∷◌, Some, None, Option, ◌==◌}
 use Rattle.decimals.specs.Digits.{number, clipped}
 use Rattle.inspection.specs.Letters.{status_of}
+use Rattle.inspection.specs.declared.class.PerClass.{PerClass}
 use Rattle.inspection.specs.declared.status.Status.{Status}
 use Rattle.texts.specs.Pieces.{Piece, fields, bare}
 use Rattle.texts.specs.Texts.{parted_by}
@@ -40,6 +41,14 @@ class_to x bs =
     then (number_to x bs) (λ ac2 bs.
     Some (record { accept_first = ac1; reject_first = re1; accept_both = ac2 }, bs))))
 
+-- one of something for each class, the last of them up to x
+unfoldable pub each_to : {X : Type 0} → (ℕ → List ℕ → Taken X) → ℕ → List ℕ → Taken (PerClass X)
+each_to to x bs =
+    then (to 9 bs) (λ c bs.
+    then (to 9 bs) (λ m bs.
+    then (to x bs) (λ t bs.
+    Some (record { critical = c; major = m; total = t }, bs))))
+
 -- nothing follows
 abbrev pub at_end : {X : Type 0} → List ℕ → X → Option X
 at_end [] x = Some x
@@ -51,27 +60,15 @@ lot_row_in s bs =
     then (number_to 9 bs) (λ size bs.
     then (number_to 9 bs) (λ first bs.
     then (number_to 9 bs) (λ both bs.
-    then (class_to 9 bs) (λ critical bs.
-    then (class_to 9 bs) (λ major bs.
-    then (class_to 10 bs) (λ total bs.
-    at_end bs (record {
-      status = s;
-      lowest_size = size;
-      first_sample = first;
-      total_sample = both;
-      critical = critical;
-      major = major;
-      total = total;
-    })))))))
+    then (each_to class_to 10 bs) (λ numbers bs.
+    at_end bs (record { status = s; lowest_size = size; first_sample = first; total_sample = both; numbers = numbers })))))
 
 -- what follows the M of a limit row: lowest units, and three limits
 unfoldable pub limit_row_in : List ℕ → Option LimitRow
 limit_row_in bs =
     then (number_to 9 bs) (λ units bs.
-    then (number_to 9 bs) (λ critical bs.
-    then (number_to 9 bs) (λ major bs.
-    then (number_to 10 bs) (λ total bs.
-    at_end bs (record { lowest_units = units; critical = critical; major = major; total = total })))))
+    then (each_to number_to 10 bs) (λ limits bs.
+    at_end bs (record { lowest_units = units; limits = limits })))
 
 abbrev pub as_lot : Option LotRow → Option Row
 as_lot None = None

@@ -6,9 +6,9 @@ use Rattle.plan_texts.proofs.reading.read_plan.Goals as goal
 
 pub loop-item-preserved : goal.loop-item-preserved
 loop-item-preserved c =
-    let put = c.in-Ok-put.ensures in
-    let good = c.in-Ok.ensures in
-    (tt, tt, sym (going_more (vec_items c.loop-item.running.lots) (vec_items c.loop-item.running.limits) c.loop-item.running.last c.in-Ok.row (shown c.in-Some.item) _ _ _ _ _ c.in-Some.ensures.steps good.0 good.1 put.0 put.1 put.2) ∙ c.loop-item.invariant.2)
+    let put = c.in_ok-put.ensures in
+    let good = c.in_ok-row.ensures in
+    (tt, tt, sym (going_more (vec_items c.loop-item.running.lots) (vec_items c.loop-item.running.limits) c.loop-item.running.last c.in_ok-row.row (shown c.in-Some.item) _ _ _ _ _ c.in-Some.ensures.steps good.0 good.1 put.0 put.1 put.2) ∙ c.loop-item.invariant.2)
 
 pub invariant_of-result : goal.invariant_of-result
 invariant_of-result c =

@@ -1,6 +1,6 @@
 use Rattle.std.proofs.Common.{rules}
 use Rattle.plan_texts.proofs.Fields.{no_end, no_number, one_number}
-use Rattle.plan_texts.proofs.row_line.take_number.Goals as goal
+use Rattle.plan_texts.proofs.row_line.U32Field.take.Goals as goal
 
 pub returns-in_err-at : goal.returns-in_err-at
 returns-in_err-at c = search (rules, no_end)
