@@ -1,5 +1,5 @@
 -- The letter of each case, and the case of each letter. Letters are the numbers of their characters.
-use Rattle.std.specs.Prelude.{ℕ, cond, List, [], ◌∷◌, Some, None, Option, ◌==◌}
+use Rattle.std.specs.Prelude.{◌≡◌, ℕ, cond, ◌↔◌, List, [], ◌∷◌, Some, None, Ok, Option, Result, ◌==◌, ok_or}
 use Rattle.inspection.specs.declared.status.Status.{Status}
 use Rattle.inspection.specs.declared.status.Status.TheVariants.{Normal, Tightened, Reduced}
 use Rattle.inspection.specs.declared.verdict.Verdict.{Verdict}
@@ -7,6 +7,7 @@ use Rattle.inspection.specs.declared.verdict.Verdict.TheVariants.{Accepted, Reje
 use Rattle.inspection.specs.declared.kind.Kind.{Kind}
 use Rattle.inspection.specs.declared.kind.Kind.TheVariants.{PeriodOpened, Portion, PeriodEnded, Lot, SecondSample, Relief, IrregularNotice, Spoiled}
 use Rattle.inspection.specs.declared.class.DefectClass.{DefectClass}
+use Rattle.inspection.specs.declared.letter.UnknownLetter.{UnknownLetter}
 use Rattle.inspection.specs.declared.class.DefectClass.TheVariants.{Critical, Major, Minor}
 
 -- the first of the cases whose letter is c
@@ -53,3 +54,8 @@ class_letter Minor = 78  -- N
 
 abbrev pub class_of : ℕ → Option DefectClass
 class_of = lettered class_letter (Critical ∷ Major ∷ Minor ∷ [])
+
+-- what reading a letter answers: the case that has it, which is the only one, and else the letter itself
+pub record LetterRead {X : Type 0} (letter : X → ℕ) (case_of : ℕ → Option X) (c : ℕ) (r : Result X UnknownLetter) : Type 0 where
+  pub value : r ≡ ok_or (case_of c) (record { letter = c })
+  pub inverse : (x : X) → (r ≡ Ok x) ↔ (letter x ≡ c)

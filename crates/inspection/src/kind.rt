@@ -1,7 +1,8 @@
 // What an entry of the book tells of.
-ghost use Rattle.std.specs.Prelude.{◌≡◌, ◌↔◌, Some};
-ghost use Rattle.inspection.specs.Letters.{kind_letter, kind_of};
-ghost use Rattle.inspection.specs.declared.kind.Kind.{Kind as Case};
+ghost use Rattle.std.specs.Prelude.{◌≡◌};
+ghost use Rattle.inspection.specs.Letters.{kind_letter, kind_of, LetterRead};
+
+use crate::letter::UnknownLetter;
 
 #[derive(Clone, Copy, PartialEq, Eq, Debug)]
 pub enum Kind {
@@ -16,11 +17,11 @@ pub enum Kind {
     Spoiled,
 }
 
-impl Kind {
-    pub fn letter(self) -> char
-        ensures { result ≡ kind_letter self }
-    {
-        match self {
+impl From<Kind> for char {
+    ghost from_gives = { λ x c. c ≡ kind_letter x };
+
+    fn from(kind: Kind) -> char {
+        match kind {
             Kind::PeriodOpened => 'O',
             Kind::Portion => 'P',
             Kind::PeriodEnded => 'E',
@@ -31,22 +32,25 @@ impl Kind {
             Kind::Spoiled => 'X',
         }
     }
+}
 
-    // The kind whose letter it is; no other letter has one.
-    pub fn from_letter(letter: char) -> Option<Kind>
-        ensures value { result ≡ kind_of letter }
-        ensures inverse { (k : Case) → (result ≡ Some k) ↔ (kind_letter k ≡ letter) }
-    {
+// The kind whose letter it is; no other letter has one.
+impl TryFrom<char> for Kind {
+    type Error = UnknownLetter;
+
+    ghost try_from_gives = { LetterRead kind_letter kind_of };
+
+    fn try_from(letter: char) -> Result<Kind, UnknownLetter> {
         match letter {
-            'O' => Some(Kind::PeriodOpened),
-            'P' => Some(Kind::Portion),
-            'E' => Some(Kind::PeriodEnded),
-            'L' => Some(Kind::Lot),
-            'S' => Some(Kind::SecondSample),
-            'G' => Some(Kind::Relief),
-            'I' => Some(Kind::IrregularNotice),
-            'X' => Some(Kind::Spoiled),
-            _ => None,
+            'O' => Ok(Kind::PeriodOpened),
+            'P' => Ok(Kind::Portion),
+            'E' => Ok(Kind::PeriodEnded),
+            'L' => Ok(Kind::Lot),
+            'S' => Ok(Kind::SecondSample),
+            'G' => Ok(Kind::Relief),
+            'I' => Ok(Kind::IrregularNotice),
+            'X' => Ok(Kind::Spoiled),
+            _ => Err(UnknownLetter { letter }),
         }
     }
 }

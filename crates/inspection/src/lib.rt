@@ -3,6 +3,7 @@
 
 pub mod class;
 pub mod kind;
+pub mod letter;
 pub mod refusal;
 pub mod status;
 pub mod tally;

@@ -1,36 +1,56 @@
 // How closely a line is inspected at present.
-ghost use Rattle.std.specs.Prelude.{◌≡◌, ◌↔◌, Some};
-ghost use Rattle.inspection.specs.Letters.{status_letter, status_of};
-ghost use Rattle.inspection.specs.declared.status.Status.{Status as Case};
+ghost use Rattle.std.specs.Prelude.{◌≡◌, Some};
+ghost use Rattle.inspection.specs.Statuses.{status_name};
+ghost use Rattle.inspection.specs.Letters.{status_letter, status_of, LetterRead};
 
-#[derive(Clone, Copy, PartialEq, Eq, Debug)]
+use crate::letter::UnknownLetter;
+use std::fmt;
+
+// In the order in which a plan has them.
+#[derive(Clone, Copy, PartialEq, Eq, PartialOrd, Ord, Debug)]
 pub enum Status {
     Normal,
     Tightened,
     Reduced,
 }
 
-impl Status {
-    pub fn letter(self) -> char
-        ensures { result ≡ status_letter self }
-    {
-        match self {
+impl From<Status> for char {
+    ghost from_gives = { λ x c. c ≡ status_letter x };
+
+    fn from(status: Status) -> char {
+        match status {
             Status::Normal => 'N',
             Status::Tightened => 'T',
             Status::Reduced => 'R',
         }
     }
+}
 
-    // The status whose letter it is; no other letter has one.
-    pub fn from_letter(letter: char) -> Option<Status>
-        ensures value { result ≡ status_of letter }
-        ensures inverse { (s : Case) → (result ≡ Some s) ↔ (status_letter s ≡ letter) }
-    {
+// The status whose letter it is; no other letter has one.
+impl TryFrom<char> for Status {
+    type Error = UnknownLetter;
+
+    ghost try_from_gives = { LetterRead status_letter status_of };
+
+    fn try_from(letter: char) -> Result<Status, UnknownLetter> {
         match letter {
-            'N' => Some(Status::Normal),
-            'T' => Some(Status::Tightened),
-            'R' => Some(Status::Reduced),
-            _ => None,
+            'N' => Ok(Status::Normal),
+            'T' => Ok(Status::Tightened),
+            'R' => Ok(Status::Reduced),
+            _ => Err(UnknownLetter { letter }),
         }
+    }
+}
+
+// Its name, as people read it.
+impl fmt::Display for Status {
+    ghost output = { λ s. Some (status_name s) };
+
+    fn fmt<W: fmt::Write>(&self, f: &mut fmt::Formatter<W>) -> fmt::Result {
+        f.write_str(match self {
+            Status::Normal => "normal",
+            Status::Tightened => "tightened",
+            Status::Reduced => "reduced",
+        })
     }
 }

@@ -1,5 +1,5 @@
 // The defects of a sample, counted by class.
-ghost use Rattle.std.specs.Prelude.{◌≡◌};
+ghost use Rattle.std.specs.Prelude.{◌≡◌, ◌*◌, ◌^◌, ◌<◌};
 ghost use Rattle.inspection.specs.Tallies.{total_of};
 
 #[derive(Clone, Copy, PartialEq, Eq, Debug)]
@@ -18,8 +18,9 @@ impl Tally {
     };
 
     pub fn total(&self) -> u64
-        ensures { result ≡ total_of self.now }
+        ensures value { result ≡ total_of self.now }
+        ensures few { result < 3 * 2 ^ 32 }
     {
-        self.critical as u64 + self.major as u64 + self.minor as u64
+        u64::from(self.critical) + u64::from(self.major) + u64::from(self.minor)
     }
 }

@@ -1,7 +1,8 @@
 // What a call answers of a portion, a lot or a period.
-ghost use Rattle.std.specs.Prelude.{◌≡◌, ◌↔◌, Some};
-ghost use Rattle.inspection.specs.Letters.{verdict_letter, verdict_of};
-ghost use Rattle.inspection.specs.declared.verdict.Verdict.{Verdict as Case};
+ghost use Rattle.std.specs.Prelude.{◌≡◌};
+ghost use Rattle.inspection.specs.Letters.{verdict_letter, verdict_of, LetterRead};
+
+use crate::letter::UnknownLetter;
 
 #[derive(Clone, Copy, PartialEq, Eq, Debug)]
 pub enum Verdict {
@@ -17,11 +18,11 @@ pub enum Verdict {
     Undecided,
 }
 
-impl Verdict {
-    pub fn letter(self) -> char
-        ensures { result ≡ verdict_letter self }
-    {
-        match self {
+impl From<Verdict> for char {
+    ghost from_gives = { λ x c. c ≡ verdict_letter x };
+
+    fn from(verdict: Verdict) -> char {
+        match verdict {
             Verdict::Accepted => 'A',
             Verdict::Rejected => 'R',
             Verdict::Awaited => 'W',
@@ -30,20 +31,23 @@ impl Verdict {
             Verdict::Undecided => '-',
         }
     }
+}
 
-    // The verdict whose letter it is; no other letter has one.
-    pub fn from_letter(letter: char) -> Option<Verdict>
-        ensures value { result ≡ verdict_of letter }
-        ensures inverse { (v : Case) → (result ≡ Some v) ↔ (verdict_letter v ≡ letter) }
-    {
+// The verdict whose letter it is; no other letter has one.
+impl TryFrom<char> for Verdict {
+    type Error = UnknownLetter;
+
+    ghost try_from_gives = { LetterRead verdict_letter verdict_of };
+
+    fn try_from(letter: char) -> Result<Verdict, UnknownLetter> {
         match letter {
-            'A' => Some(Verdict::Accepted),
-            'R' => Some(Verdict::Rejected),
-            'W' => Some(Verdict::Awaited),
-            'F' => Some(Verdict::Full),
-            'B' => Some(Verdict::Brief),
-            '-' => Some(Verdict::Undecided),
-            _ => None,
+            'A' => Ok(Verdict::Accepted),
+            'R' => Ok(Verdict::Rejected),
+            'W' => Ok(Verdict::Awaited),
+            'F' => Ok(Verdict::Full),
+            'B' => Ok(Verdict::Brief),
+            '-' => Ok(Verdict::Undecided),
+            _ => Err(UnknownLetter { letter }),
         }
     }
 }

@@ -8,9 +8,9 @@ use Rattle.entries.specs.declared.entry.Entry.{Entry}
 use Rattle.entries.specs.Entries.{spoiled}
 use Rattle.books.specs.Books.{numbered}
 use Rattle.books.proofs.Numbering.{numbered_at}
-use Rattle.regimes.specs.Classes.{count_of}
-use Rattle.regimes.specs.declared.class.JudgedClass.{JudgedClass}
-use Rattle.regimes.specs.declared.class.JudgedClass.TheVariants.{Critical, Major, Total}
+use Rattle.inspection.specs.Classes.{count_of}
+use Rattle.inspection.specs.declared.class.JudgedClass.{JudgedClass}
+use Rattle.inspection.specs.declared.class.JudgedClass.TheVariants.{Critical, Major, Total}
 use Rattle.runs.specs.History.{Article, is_awaited, verdicts, units_of, defects_of}
 use Rattle.runs.specs.Lines.{Sample as Ruled, Reading, sole, both, read_by, reading, articles, last_articles}
 use Rattle.runs.specs.LookingBack.{sample_back, with_first, article_back}

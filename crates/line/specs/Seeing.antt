@@ -7,7 +7,7 @@ use Rattle.std.specs.Prelude.{ℕ, ◌+◌, ◌*◌, ◌≤◌, Bool, false, not
 use Rattle.entries.specs.declared.entry.Entry.{Entry}
 use Rattle.inspection.specs.declared.kind.Kind.TheVariants as kind
 use Rattle.inspection.specs.Tallies.{total_of}
-use Rattle.regimes.specs.declared.class.JudgedClass.TheVariants.{Critical, Major, Total}
+use Rattle.inspection.specs.declared.class.JudgedClass.TheVariants.{Critical, Major, Total}
 use Rattle.runs.specs.History.{Article, verdicts, units_of, defects_of, first}
 use Rattle.runs.specs.Lines.{Sample as Ruled, reading, articles, last_articles}
 use Rattle.runs.specs.LookingBack.{sample_back, article_back}

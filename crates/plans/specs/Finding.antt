@@ -1,18 +1,16 @@
 -- Which row is for a lot, and which limits for so many units.
-use Rattle.std.specs.Prelude.{ℕ, Bool, cond, ◌&&◌, List, [], ◌∷◌, Some, None, Option, nat_le}
+use Rattle.std.specs.Prelude.{ℕ, Bool, ◌&&◌, List, [], ◌∷◌, None, Option, nat_le}
+use Rattle.std.specs.Bool.{then_some}
+use Rattle.std.specs.Option.{option_or}
 use Rattle.inspection.specs.Statuses.{same_status}
 use Rattle.inspection.specs.declared.status.Status.{Status}
 use Rattle.plans.specs.declared.rows.LotRow.{LotRow}
 use Rattle.plans.specs.declared.rows.LimitRow.{LimitRow}
 
-abbrev pub or_this : {X : Type 0} → Option X → Option X → Option X
-or_this None o = o
-or_this (Some x) o = Some x
-
 -- the last of the rows that p fits
 abbrev pub last_of : {X : Type 0} → (X → Bool) → List X → Option X
 last_of p [] = None
-last_of p (x ∷ xs) = or_this (last_of p xs) (cond (p x) (Some x) None)
+last_of p (x ∷ xs) = option_or (last_of p xs) (then_some (p x) x)
 
 -- a row of the status whose lowest size is not above the lot's
 abbrev pub row_fits : Status → ℕ → LotRow → Bool

@@ -11,10 +11,10 @@ none_accepted = record { accept_first = 0; reject_first = 1; accept_both = 0 }
 
 abbrev pub fresh_row : Status → LotRow
 fresh_row s =
-    record { status = s; lowest_size = 1; first_sample = 1; total_sample = 1; critical = none_accepted; major = none_accepted; total = none_accepted }
+    record { status = s; lowest_size = 1; first_sample = 1; total_sample = 1; numbers = record { critical = none_accepted; major = none_accepted; total = none_accepted } }
 
 abbrev pub fresh_lots : List LotRow
 fresh_lots = fresh_row Normal ∷ fresh_row Tightened ∷ fresh_row Reduced ∷ []
 
 abbrev pub fresh_limits : List LimitRow
-fresh_limits = record { lowest_units = 1; critical = 0; major = 0; total = 0 } ∷ []
+fresh_limits = record { lowest_units = 1; limits = record { critical = 0; major = 0; total = 0 } } ∷ []

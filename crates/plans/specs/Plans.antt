@@ -1,5 +1,6 @@
 -- What every plan book keeps.
 use Rattle.std.specs.Prelude.{ℕ, ◌+◌, Bool, true, not, ◌&&◌, ◌||◌, List, [], ◌∷◌, length, count_by, ◌==◌, nat_le, nat_lt}
+use Rattle.inspection.specs.Classes.{at_class, each_class}
 use Rattle.inspection.specs.Statuses.{rank, same_status}
 use Rattle.inspection.specs.declared.status.Status.{Status}
 use Rattle.inspection.specs.declared.status.Status.TheVariants.{Normal, Tightened, Reduced}
@@ -36,10 +37,10 @@ samples_kept r =
 
 abbrev pub lot_row_kept : LotRow → Bool
 lot_row_kept r =
-    (in_width r.lowest_size && samples_kept r) && ((class_kept r r.critical && class_kept r r.major) && class_kept r r.total)
+    (in_width r.lowest_size && samples_kept r) && each_class (λ c. class_kept r (at_class r.numbers c))
 
 abbrev pub limit_row_kept : LimitRow → Bool
-limit_row_kept r = (in_width r.lowest_units && in_width r.critical) && (in_width r.major && in_width r.total)
+limit_row_kept r = in_width r.lowest_units && each_class (λ c. in_width (at_class r.limits c))
 
 abbrev pub each : {X : Type 0} → (X → Bool) → List X → Bool
 each p [] = true

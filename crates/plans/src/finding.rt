@@ -1,11 +1,12 @@
 // The fresh plan book, and what a plan book says of a lot.
-ghost use Rattle.std.specs.Prelude.{◌≡◌, true, IfSome, IfOk, if◌then◌else◌, Some};
+ghost use Rattle.std.specs.Prelude.{◌≡◌, ℕ, true, IfSome, IfOk};
 ghost use Rattle.plans.specs.Finding.{row_fits, row_for, limits_fit, limits_for};
 ghost use Rattle.plans.specs.Fresh.{fresh_row, fresh_lots, fresh_limits};
 ghost use Rattle.plans.specs.Plans.{lot_row_kept};
 
 use crate::plan_book::PlanBook;
 use crate::rows::{ClassNumbers, LimitRow, LotRow};
+use inspection::class::PerClass;
 use inspection::status::Status;
 use std::alloc::{AllocError, Global};
 
@@ -23,9 +24,11 @@ fn fresh_row(status: Status) -> LotRow
         lowest_size: 1,
         first_sample: 1,
         total_sample: 1,
-        critical: NONE_ACCEPTED,
-        major: NONE_ACCEPTED,
-        total: NONE_ACCEPTED,
+        numbers: PerClass {
+            critical: NONE_ACCEPTED,
+            major: NONE_ACCEPTED,
+            total: NONE_ACCEPTED,
+        },
     }
 }
 
@@ -36,23 +39,10 @@ fn fits_lot(row: &LotRow, status: Status, size: u32) -> bool
     row.status == status && row.lowest_size <= size
 }
 
-fn fits_units(row: &LimitRow, units: u32) -> bool
+fn fits_units(row: &LimitRow, units: u64) -> bool
     ensures { result ≡ limits_fit units row.now }
 {
-    row.lowest_units <= units
-}
-
-fn fits_wide_units(row: &LimitRow, units: u64) -> bool
-    ensures { result ≡ limits_fit units row.now }
-{
-    row.lowest_units as u64 <= units
-}
-
-// The row, if it fits, in place of what was found before.
-fn later<R: Copy>(found: Option<R>, row: R, fits: bool) -> Option<R>
-    ensures { result ≡ (if fits then Some row else found) }
-{
-    if fits { Some(row) } else { found }
+    u64::from(row.lowest_units) <= units
 }
 
 impl PlanBook {
@@ -69,9 +59,11 @@ impl PlanBook {
         let limits = vec![in heap;
             LimitRow {
                 lowest_units: 1,
-                critical: 0,
-                major: 0,
-                total: 0
+                limits: PerClass {
+                    critical: 0,
+                    major: 0,
+                    total: 0
+                },
             },
         ]?;
         Ok(PlanBook { lots, limits })
@@ -99,31 +91,19 @@ impl PlanBook {
         let mut found = None;
         for i in 0..self.lots.len() {
             let row = self.lots[i];
-            found = later(found, row, fits_lot(&row, status, size));
+            found = fits_lot(&row, status, size).then_some(row).or(found);
         }
         found
     }
 
-    // The limits of relief for samples of so many units.
-    pub fn relief_limits(&self, units: u32) -> Option<LimitRow>
-        ensures { result ≡ limits_for units self.now.limits.items }
+    // The limits of relief for samples of so many units together.
+    pub fn relief_limits<U: Into<u64>>(&self, units: U) -> Option<LimitRow>
+        ensures { (n : ℕ) × U.converts units n × (result ≡ limits_for n self.now.limits.items) }
     {
+        let units = units.into();
         let mut found = None;
-        for i in 0..self.limits.len() {
-            let row = self.limits[i];
-            found = later(found, row, fits_units(&row, units));
-        }
-        found
-    }
-
-    // The limits of relief where the units of many samples are counted together.
-    pub fn wide_relief_limits(&self, units: u64) -> Option<LimitRow>
-        ensures { result ≡ limits_for units self.now.limits.items }
-    {
-        let mut found = None;
-        for i in 0..self.limits.len() {
-            let row = self.limits[i];
-            found = later(found, row, fits_wide_units(&row, units));
+        for row in &self.limits {
+            found = fits_units(row, units).then_some(*row).or(found);
         }
         found
     }

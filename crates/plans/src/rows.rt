@@ -1,4 +1,5 @@
 // The rows of a plan.
+use inspection::class::PerClass;
 use inspection::status::Status;
 
 // The numbers of one class of defects.
@@ -20,9 +21,7 @@ pub struct LotRow {
     pub lowest_size: u32,
     pub first_sample: u32,
     pub total_sample: u32,
-    pub critical: ClassNumbers,
-    pub major: ClassNumbers,
-    pub total: ClassNumbers,
+    pub numbers: PerClass<ClassNumbers>,
 }
 
 // How many defects relief allows in the samples of a window.
@@ -30,7 +29,5 @@ pub struct LotRow {
 pub struct LimitRow {
     // The row is for samples that have from so many units on together.
     pub lowest_units: u32,
-    pub critical: u32,
-    pub major: u32,
-    pub total: u32,
+    pub limits: PerClass<u32>,
 }

@@ -6,12 +6,12 @@ use Rattle.inspection.specs.declared.status.Status.{Status}
 use Rattle.inspection.specs.declared.tally.Tally.{Tally}
 use Rattle.inspection.specs.declared.verdict.Verdict.TheVariants.{Accepted, Rejected, Undecided}
 use Rattle.plans.specs.declared.rows.LotRow.{LotRow}
-use Rattle.regimes.specs.Classes.{count_of, some_class, each_class}
+use Rattle.inspection.specs.Classes.{count_of, some_class, each_class}
 use Rattle.regimes.specs.Portions.{cusum_of, value_reached, is_over, value_held, portion_judged, starting_values, verdicts_on, verdicts_of}
 use Rattle.regimes.specs.Lots.{numbers_of, added, accepts_first, rejects_first, accepts_both, lot_judged}
 use Rattle.regimes.specs.Promises.{NoMore, NoMoreEach, NoHigher, MoreIsNoBetter}
-use Rattle.regimes.specs.declared.class.JudgedClass.{JudgedClass}
-use Rattle.regimes.specs.declared.class.JudgedClass.TheVariants.{Critical, Major, Total}
+use Rattle.inspection.specs.declared.class.JudgedClass.{JudgedClass}
+use Rattle.inspection.specs.declared.class.JudgedClass.TheVariants.{Critical, Major, Total}
 use Rattle.regimes.specs.declared.cusum.Values.{Values}
 use Rattle.regimes.proofs.Samples.{by_tests, count_added}
 use Rattle.regimes.proofs.Stretches.{rejected_exactly}

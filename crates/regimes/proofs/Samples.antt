@@ -7,11 +7,11 @@ use Rattle.inspection.specs.declared.verdict.Verdict.{Verdict}
 use Rattle.inspection.specs.declared.verdict.Verdict.TheVariants.{Accepted, Rejected, Awaited}
 use Rattle.plans.specs.Plans.{lot_row_kept, in_width, samples_kept, class_kept, class_in_width, class_order, class_single, single}
 use Rattle.plans.specs.declared.rows.LotRow.{LotRow}
-use Rattle.regimes.specs.Classes.{count_of, some_class, each_class}
+use Rattle.inspection.specs.Classes.{count_of, some_class, each_class}
 use Rattle.regimes.specs.Lots.{numbers_of, added, accepts_first, rejects_first, accepts_both, lot_judged}
 use Rattle.regimes.specs.Promises.{AllAccepted, SomeRejected, BothAccepted, FirstJudged, BothJudged, AllJudgedByNumbers}
-use Rattle.regimes.specs.declared.class.JudgedClass.{JudgedClass}
-use Rattle.regimes.specs.declared.class.JudgedClass.TheVariants.{Critical, Major, Total}
+use Rattle.inspection.specs.declared.class.JudgedClass.{JudgedClass}
+use Rattle.inspection.specs.declared.class.JudgedClass.TheVariants.{Critical, Major, Total}
 use Rattle.regimes.proofs.Tried.{some_true, some_from, each_true, each_from}
 
 pub count_added : (c : JudgedClass) (a b : Tally) → count_of c (added a b) ≡ count_of c a + count_of c b

@@ -3,11 +3,11 @@ use Rattle.std.proofs.Common.{◌≡◌, ℕ, zero, suc, ◌<◌, ◌≤◌, Boo
 use Rattle.inspection.specs.declared.status.Status.{Status}
 use Rattle.inspection.specs.declared.tally.Tally.{Tally}
 use Rattle.inspection.specs.declared.verdict.Verdict.TheVariants.{Accepted, Rejected, Undecided}
-use Rattle.regimes.specs.Classes.{count_of, some_class}
+use Rattle.inspection.specs.Classes.{count_of, some_class}
 use Rattle.regimes.specs.Portions.{cusum_of, value_of, portion_judged, starting_values, values_on, verdicts_on, verdicts_of}
 use Rattle.regimes.specs.Promises.{AllJudgedByRows, ValuesWithin}
-use Rattle.regimes.specs.declared.class.JudgedClass.{JudgedClass}
-use Rattle.regimes.specs.declared.class.JudgedClass.TheVariants.{Critical, Major, Total}
+use Rattle.inspection.specs.declared.class.JudgedClass.{JudgedClass}
+use Rattle.inspection.specs.declared.class.JudgedClass.TheVariants.{Critical, Major, Total}
 use Rattle.regimes.specs.declared.cusum.Values.{Values}
 use Rattle.regimes.proofs.Overrun.{flags, overruns_by_value, marked_by_value}
 use Rattle.regimes.proofs.Table.{starts_within}

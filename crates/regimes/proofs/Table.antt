@@ -6,8 +6,8 @@ use Rattle.inspection.specs.declared.status.Status.{Status}
 use Rattle.inspection.specs.declared.status.Status.TheVariants.{Normal, Tightened, Reduced}
 use Rattle.regimes.specs.Portions.{cusum, table, class_place}
 use Rattle.regimes.specs.Promises.{StartsWithin}
-use Rattle.regimes.specs.declared.class.JudgedClass.{JudgedClass}
-use Rattle.regimes.specs.declared.class.JudgedClass.TheVariants.{Critical, Major, Total}
+use Rattle.inspection.specs.declared.class.JudgedClass.{JudgedClass}
+use Rattle.inspection.specs.declared.class.JudgedClass.TheVariants.{Critical, Major, Total}
 use Rattle.regimes.specs.declared.cusum.Cusum.{Cusum}
 
 abbrev every : {X : Type 0} → (X → Bool) → List X → Bool

@@ -1,9 +1,9 @@
 -- Tests over the three classes.
 use Rattle.std.proofs.Common.{◌≡◌, Bool, true, false, ◌&&◌, ◌||◌, refl, inl, inr}
 use Rattle.std.proofs.lemmas.Bool.{and_parts, and_from, or_cases, or_left, or_right, both_ways}
-use Rattle.regimes.specs.Classes.{some_class, each_class}
-use Rattle.regimes.specs.declared.class.JudgedClass.{JudgedClass}
-use Rattle.regimes.specs.declared.class.JudgedClass.TheVariants.{Critical, Major, Total}
+use Rattle.inspection.specs.Classes.{some_class, each_class}
+use Rattle.inspection.specs.declared.class.JudgedClass.{JudgedClass}
+use Rattle.inspection.specs.declared.class.JudgedClass.TheVariants.{Critical, Major, Total}
 
 module _ (p : JudgedClass → Bool) where
   pub some_true : some_class p ≡ true → (c : JudgedClass) × (p c ≡ true)

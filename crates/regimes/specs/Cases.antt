@@ -8,8 +8,8 @@ use Rattle.inspection.specs.declared.verdict.Verdict.TheVariants.{Accepted, Reje
 use Rattle.plans.specs.declared.rows.LotRow.{LotRow}
 use Rattle.regimes.specs.Portions.{value_reached, values_after, verdicts_of}
 use Rattle.regimes.specs.Lots.{lot_judged}
-use Rattle.regimes.specs.declared.class.JudgedClass.{JudgedClass}
-use Rattle.regimes.specs.declared.class.JudgedClass.TheVariants.{Critical, Major}
+use Rattle.inspection.specs.declared.class.JudgedClass.{JudgedClass}
+use Rattle.inspection.specs.declared.class.JudgedClass.TheVariants.{Critical, Major}
 
 abbrev pub critical_alone : ℕ → Tally
 critical_alone n = record { critical = n; major = 0; minor = 0 }

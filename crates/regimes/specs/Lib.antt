@@ -1,4 +1,3 @@
-pub mod Classes
 pub mod Rules
 pub mod Portions
 pub mod Lots

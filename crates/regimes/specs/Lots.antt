@@ -8,10 +8,10 @@ use Rattle.plans.specs.Finding.{row_for, limits_for}
 use Rattle.plans.specs.declared.rows.ClassNumbers.{ClassNumbers}
 use Rattle.plans.specs.declared.rows.LotRow.{LotRow}
 use Rattle.plans.specs.declared.rows.LimitRow.{LimitRow}
-use Rattle.regimes.specs.Classes.{count_of, some_class, each_class}
+use Rattle.inspection.specs.Classes.{count_of, some_class, each_class}
 use Rattle.regimes.specs.Rules.{Rules}
-use Rattle.regimes.specs.declared.class.JudgedClass.{JudgedClass}
-use Rattle.regimes.specs.declared.class.JudgedClass.TheVariants.{Critical, Major, Total}
+use Rattle.inspection.specs.declared.class.JudgedClass.{JudgedClass}
+use Rattle.inspection.specs.declared.class.JudgedClass.TheVariants.{Critical, Major, Total}
 use Rattle.regimes.specs.declared.judge.Limits.{Limits}
 
 -- the row for a lot: none for a lot of more than 9,999,999

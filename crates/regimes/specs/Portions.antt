@@ -6,10 +6,10 @@ use Rattle.inspection.specs.declared.status.Status.TheVariants.{Normal, Tightene
 use Rattle.inspection.specs.declared.tally.Tally.{Tally}
 use Rattle.inspection.specs.declared.verdict.Verdict.{Verdict}
 use Rattle.inspection.specs.declared.verdict.Verdict.TheVariants.{Accepted, Rejected}
-use Rattle.regimes.specs.Classes.{count_of, some_class}
+use Rattle.inspection.specs.Classes.{count_of, some_class}
 use Rattle.regimes.specs.Rules.{Rules}
-use Rattle.regimes.specs.declared.class.JudgedClass.{JudgedClass}
-use Rattle.regimes.specs.declared.class.JudgedClass.TheVariants.{Critical, Major, Total}
+use Rattle.inspection.specs.declared.class.JudgedClass.{JudgedClass}
+use Rattle.inspection.specs.declared.class.JudgedClass.TheVariants.{Critical, Major, Total}
 use Rattle.regimes.specs.declared.cusum.Cusum.{Cusum}
 use Rattle.regimes.specs.declared.cusum.Values.{Values}
 

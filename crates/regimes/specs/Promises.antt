@@ -6,11 +6,11 @@ use Rattle.inspection.specs.declared.verdict.Verdict.{Verdict}
 use Rattle.inspection.specs.declared.verdict.Verdict.TheVariants.{Accepted, Rejected, Awaited, Undecided}
 use Rattle.plans.specs.Plans.{lot_row_kept}
 use Rattle.plans.specs.declared.rows.LotRow.{LotRow}
-use Rattle.regimes.specs.Classes.{count_of}
+use Rattle.inspection.specs.Classes.{count_of}
 use Rattle.regimes.specs.Portions.{cusum_of, value_of, portion_judged, values_after, verdicts_of}
 use Rattle.regimes.specs.Lots.{numbers_of, lot_judged}
 use Rattle.regimes.specs.Rows.{JudgedByRows}
-use Rattle.regimes.specs.declared.class.JudgedClass.{JudgedClass}
+use Rattle.inspection.specs.declared.class.JudgedClass.{JudgedClass}
 use Rattle.regimes.specs.declared.cusum.Values.{Values}
 
 abbrev pub StartsWithin : Type 0

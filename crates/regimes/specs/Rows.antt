@@ -4,9 +4,9 @@ use Rattle.inspection.specs.declared.status.Status.{Status}
 use Rattle.inspection.specs.declared.tally.Tally.{Tally}
 use Rattle.inspection.specs.declared.verdict.Verdict.{Verdict}
 use Rattle.inspection.specs.declared.verdict.Verdict.TheVariants.{Accepted, Rejected, Undecided}
-use Rattle.regimes.specs.Classes.{count_of}
+use Rattle.inspection.specs.Classes.{count_of}
 use Rattle.regimes.specs.Portions.{cusum_of}
-use Rattle.regimes.specs.declared.class.JudgedClass.{JudgedClass}
+use Rattle.inspection.specs.declared.class.JudgedClass.{JudgedClass}
 use Rattle.regimes.specs.declared.cusum.Cusum.{Cusum}
 
 abbrev pub sum : List ℕ → ℕ

@@ -3,7 +3,7 @@ ghost use Rattle.std.specs.Prelude.{◌≡◌, ◌≤◌};
 ghost use Rattle.inspection.specs.Statuses.{rank};
 ghost use Rattle.regimes.specs.Portions.{class_place, cusum_of, value_of};
 
-use crate::class::JudgedClass;
+use inspection::class::JudgedClass;
 use inspection::status::Status;
 
 // In hundredths of a defect.

@@ -1,9 +1,9 @@
 // The on-line regime: portions of production, judged by three running values.
 ghost use Rattle.std.specs.Prelude.{◌≡◌};
-ghost use Rattle.regimes.specs.Classes.{some_class};
+ghost use Rattle.inspection.specs.Classes.{some_class};
 ghost use Rattle.regimes.specs.Portions.{value_reached, is_over, value_held, values_by, portion_judged, on_line_rules};
 
-use crate::class::JudgedClass;
+use inspection::class::JudgedClass;
 use crate::cusum::{Cusum, Values};
 use crate::judge::{Judge, Limits, Regime};
 use inspection::status::Status;

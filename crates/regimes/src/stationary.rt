@@ -1,10 +1,10 @@
 // The stationary regime: lots, judged by one or two samples and the rows of a plan book.
 ghost use Rattle.std.specs.Prelude.{◌≡◌, true, IfSome};
 ghost use Rattle.plans.specs.Plans.{lot_row_kept};
-ghost use Rattle.regimes.specs.Classes.{each_class, some_class};
+ghost use Rattle.inspection.specs.Classes.{each_class, some_class};
 ghost use Rattle.regimes.specs.Lots.{row_of_lot, numbers_of, added, accepts_first, rejects_first, accepts_both, first_judged, both_judged, stationary_rules};
 
-use crate::class::JudgedClass;
+use inspection::class::JudgedClass;
 use crate::judge::{Judge, Limits, Regime};
 use inspection::status::Status;
 use inspection::tally::Tally;

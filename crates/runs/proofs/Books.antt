@@ -8,8 +8,8 @@ use Rattle.entries.specs.declared.entry.Entry.{Entry}
 use Rattle.inspection.specs.declared.refusal.Refusal.{Refusal}
 use Rattle.inspection.specs.declared.refusal.Refusal.TheVariants.{SheetLineNotOfForm, NoPeriodOpen, PeriodOpenAlready, LotAwaits, NoLotAwaits, SlipIsOut, LotSizeOutOfRange, ReliefOffNormal, SpellTooShort, TooManyRejected, TooFewUnits, DefectsAboveLimit, NoticeOffReduced, NoRoom, BookUnsound}
 use Rattle.inspection.specs.declared.status.Status.TheVariants.{Normal, Reduced}
-use Rattle.regimes.specs.declared.class.JudgedClass.TheVariants.{Total}
-use Rattle.regimes.specs.Classes.{count_of}
+use Rattle.inspection.specs.declared.class.JudgedClass.TheVariants.{Total}
+use Rattle.inspection.specs.Classes.{count_of}
 use Rattle.runs.specs.Spells.{rejections}
 use Rattle.std.proofs.lemmas.Bool.{leb-true, lt-leb, eq-eqb, not-false}
 use Rattle.inspection.specs.Statuses.{same_status}

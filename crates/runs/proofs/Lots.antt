@@ -26,7 +26,7 @@ use Rattle.runs.specs.declared.standing.Standing.{Standing}
 use Rattle.runs.specs.declared.standing.WaitingLot.{WaitingLot}
 use Rattle.runs.specs.declared.standing.Taken.{Taken}
 use Rattle.runs.specs.Lines.{Sample, Reading, both, articles, reading, told, or_zero, due_size, is_due, slip_of, turns, lot_taken, second_taken, settled, refuses, takes, step}
-use Rattle.regimes.specs.Classes.{each_class, some_class}
+use Rattle.inspection.specs.Classes.{each_class, some_class}
 use Rattle.regimes.specs.Lots.{accepts_first, rejects_first, first_judged, both_judged, lot_judged, lot_units}
 use Rattle.runs.specs.Regimes.{lots_rules}
 use Rattle.runs.specs.Runs.{ForLots, fresh}

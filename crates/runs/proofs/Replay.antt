@@ -11,8 +11,8 @@ use Rattle.entries.specs.declared.entry.Entry.{Entry}
 use Rattle.inspection.specs.declared.refusal.Refusal.{Refusal}
 use Rattle.inspection.specs.declared.refusal.Refusal.TheVariants.{SheetLineNotOfForm, NoPeriodOpen, PeriodOpenAlready, LotAwaits, NoLotAwaits, LotSizeOutOfRange, ReliefOffNormal, SpellTooShort, TooManyRejected, TooFewUnits, DefectsAboveLimit, NoticeOffReduced, NoRoom, BookUnsound}
 use Rattle.inspection.specs.declared.status.Status.TheVariants.{Normal, Reduced}
-use Rattle.regimes.specs.declared.class.JudgedClass.TheVariants.{Total}
-use Rattle.regimes.specs.Classes.{count_of}
+use Rattle.inspection.specs.declared.class.JudgedClass.TheVariants.{Total}
+use Rattle.inspection.specs.Classes.{count_of}
 use Rattle.runs.specs.Spells.{rejections}
 use Rattle.inspection.specs.Statuses.{same_status}
 use Rattle.runs.specs.History.{Call, open_period, enter_portion, end_period, enter_lot, enter_second, hand_in, reissue, grant_relief, report_irregular, Event, Article, is_awaited, is_rejected, first, fault, scored, verdicts, units_of, above}

@@ -8,8 +8,8 @@ use Rattle.inspection.specs.declared.tally.Tally.{Tally}
 use Rattle.entries.specs.declared.entry.Entry.{Entry}
 use Rattle.inspection.specs.declared.refusal.Refusal.{Refusal}
 use Rattle.inspection.specs.declared.refusal.Refusal.TheVariants.{NoPeriodOpen, LotAwaits, NoLotAwaits, LotSizeOutOfRange, NoRoom, SlipIsOut}
-use Rattle.regimes.specs.declared.class.JudgedClass.{JudgedClass}
-use Rattle.regimes.specs.Classes.{count_of}
+use Rattle.inspection.specs.declared.class.JudgedClass.{JudgedClass}
+use Rattle.inspection.specs.Classes.{count_of}
 use Rattle.regimes.specs.Portions.{cusum_of}
 use Rattle.runs.specs.Spells.{turned}
 use Rattle.inspection.specs.Statuses.{same_status}
@@ -19,7 +19,7 @@ use Rattle.runs.specs.declared.standing.Reply.{Reply}
 use Rattle.runs.specs.History.{Call, open_period, enter_portion, end_period, enter_lot, enter_second, hand_in, reissue, grant_relief, report_irregular, Event, Fixed, Article, Waiting, status, status_after, count, waiting, waits, written, decided, period, stretch, slip_out, refusal, first, fault, scored, first_units, is_awaited, is_rejected, no_room}
 use Rattle.runs.specs.Earned.{Ruled, PortionEarned, FirstToBreak, ByArticle, Turned, Earned}
 use Rattle.runs.specs.Lines.{told}
-use Rattle.regimes.specs.Classes.{some_class}
+use Rattle.inspection.specs.Classes.{some_class}
 use Rattle.runs.specs.Regimes.{on_line_fixed, lots_fixed}
 use Rattle.runs.specs.Runs.{ForPortions, ForLots, Each}
 use Rattle.runs.specs.Settles.{calls_of, SettledByCalls}

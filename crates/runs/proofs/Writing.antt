@@ -19,8 +19,8 @@ use Rattle.plans.specs.Plans.{lot_row_kept, samples_kept, in_width}
 use Rattle.plans.proofs.Found.{last_kept, rows_kept}
 use Rattle.worksheet.proofs.Going.{score_few}
 use Rattle.worksheet.proofs.Sheets.{some_sheet_shows}
-use Rattle.regimes.specs.declared.class.JudgedClass.TheVariants.{Total}
-use Rattle.regimes.specs.Classes.{count_of}
+use Rattle.inspection.specs.declared.class.JudgedClass.TheVariants.{Total}
+use Rattle.inspection.specs.Classes.{count_of}
 use Rattle.regimes.specs.Lots.{row_of_lot, lot_units}
 use Rattle.regimes.specs.Portions.{portion_units, on_line_rules}
 use Rattle.regimes.specs.Rules.{Rules}

@@ -9,9 +9,9 @@ use Rattle.inspection.specs.declared.tally.Tally.{Tally}
 use Rattle.entries.specs.declared.entry.Entry.{Entry}
 use Rattle.inspection.specs.declared.refusal.Refusal.{Refusal}
 use Rattle.inspection.specs.declared.refusal.Refusal.TheVariants.{NoPeriodOpen, PeriodOpenAlready, LotAwaits, NoLotAwaits, SlipIsOut, LotSizeOutOfRange, ReliefOffNormal, SpellTooShort, TooManyRejected, TooFewUnits, DefectsAboveLimit, NoticeOffReduced, NoRoom}
-use Rattle.regimes.specs.declared.class.JudgedClass.{JudgedClass}
-use Rattle.regimes.specs.declared.class.JudgedClass.TheVariants.{Critical, Major, Total}
-use Rattle.regimes.specs.Classes.{count_of}
+use Rattle.inspection.specs.declared.class.JudgedClass.{JudgedClass}
+use Rattle.inspection.specs.declared.class.JudgedClass.TheVariants.{Critical, Major, Total}
+use Rattle.inspection.specs.Classes.{count_of}
 use Rattle.inspection.specs.Statuses.{same_status}
 use Rattle.plans.specs.declared.rows.LotRow.{LotRow}
 use Rattle.regimes.specs.Lots.{added}

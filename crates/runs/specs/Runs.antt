@@ -9,8 +9,8 @@ use Rattle.inspection.specs.declared.tally.Tally.{Tally}
 use Rattle.entries.specs.declared.entry.Entry.{Entry}
 use Rattle.inspection.specs.declared.refusal.Refusal.{Refusal}
 use Rattle.inspection.specs.declared.refusal.Refusal.TheVariants.{SheetLineNotOfForm}
-use Rattle.regimes.specs.declared.class.JudgedClass.TheVariants.{Total}
-use Rattle.regimes.specs.Classes.{count_of}
+use Rattle.inspection.specs.declared.class.JudgedClass.TheVariants.{Total}
+use Rattle.inspection.specs.Classes.{count_of}
 use Rattle.inspection.specs.Statuses.{same_status}
 use Rattle.runs.specs.History.{Call, open_period, enter_portion, end_period, enter_lot, enter_second, hand_in, reissue, grant_relief, report_irregular, Event}
 use Rattle.regimes.specs.Rules.{Rules}

@@ -3,9 +3,9 @@ use Rattle.std.specs.Prelude.{◌≡◌, ℕ, ◌*◌, ◌≤◌, List, [], ◌�
 use Rattle.inspection.specs.declared.refusal.Refusal.{Refusal}
 use Rattle.inspection.specs.declared.status.Status.{Status}
 use Rattle.inspection.specs.declared.tally.Tally.{Tally}
-use Rattle.regimes.specs.Classes.{count_of}
+use Rattle.inspection.specs.Classes.{count_of}
 use Rattle.regimes.specs.Rules.{Rules}
-use Rattle.regimes.specs.declared.class.JudgedClass.TheVariants.{Total}
+use Rattle.inspection.specs.declared.class.JudgedClass.TheVariants.{Total}
 use Rattle.runs.specs.History.{Call, Event}
 
 -- every tally that a sample allows is shown by some sheet

@@ -1,15 +1,13 @@
-use Rattle.std.proofs.Common.{vec_items, arith}
+use Rattle.std.proofs.Common.{◌<◌, length, get_or, vec_items, ap, arith}
 use Rattle.plans.specs.Finding.{limits_fit}
-use Rattle.plans.proofs.Found.{found_more, found_all}
+use Rattle.plans.specs.declared.rows.LimitRow.{LimitRow}
+use Rattle.plans.proofs.Found.{found_more}
 use Rattle.plans.proofs.plan_book.PlanBook.relief_limits.Goals as goal
 
-pub loop-i-preserved : goal.loop-i-preserved
-loop-i-preserved c =
-    found_more (limits_fit c.args.units) (vec_items c.args.self.now.limits) c.loop-i.i c.index.result.now c.fits_units.result c.loop-i.found c.later-found.result
-    (omega (arith, c.len-i-end.ensures, c.args.self.now.limits.ok.0)) c.index.ensures c.fits_units.ensures c.loop-i.invariant c.later-found.ensures
-
-pub returns : goal.returns
-returns c =
-    let items = vec_items c.args.self.now.limits in
-    let row = found_all (limits_fit c.args.units) items c.loop-i.i c.loop-i.found (omega (arith, c.len-i-end.ensures, c.args.self.now.limits.ok.0)) c.loop-i.invariant in
-    row
+pub loop-row-preserved : goal.loop-row-preserved
+loop-row-preserved g c =
+    let same = c.deref-row-items.ensures.value in
+    let within : c.loop-row.row-index < length (vec_items c.args.self.now.limits) = omega (arith, c.loop-row-test.true, ap length same) in
+    let none : LimitRow = record { lowest_units = 0; limits = record { critical = 0; major = 0; total = 0 } } in
+    found_more (limits_fit c.into-units.result) (vec_items c.args.self.now.limits) c.loop-row.row-index none (get_or c.deref-row-items.result.now c.loop-row.row-index none) c.fits_units.result c.loop-row.found c.then_some.result c.or-found.result
+    within (ap (λ rows. get_or rows c.loop-row.row-index none) same) c.fits_units.ensures c.loop-row.invariant c.then_some.ensures c.or-found.ensures
