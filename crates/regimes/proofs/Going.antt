@@ -4,8 +4,7 @@ use Rattle.std.proofs.lemmas.List.{append_assoc, append-nil, drop_more, drop_all
 use Rattle.inspection.specs.declared.status.Status.{Status}
 use Rattle.inspection.specs.declared.tally.Tally.{Tally}
 use Rattle.inspection.specs.declared.verdict.Verdict.{Verdict}
-use Rattle.regimes.specs.Portions.{portion_judged, verdicts_on}
-use Rattle.regimes.specs.declared.cusum.Values.{Values}
+use Rattle.regimes.specs.Portions.{Values, portion_judged, verdicts_on}
 
 module _ (s : Status) (ts : List Tally) (whole : List Verdict) where
   pub stretch_more : (i : ℕ) (d : Tally) (v : Values) (r : Verdict × Values) (done next : List Verdict) → i < length ts → r ≡ portion_judged s (get_or ts i d) v → next ≡ done ++ r.0 ∷ []

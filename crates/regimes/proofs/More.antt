@@ -6,13 +6,12 @@ use Rattle.inspection.specs.declared.status.Status.{Status}
 use Rattle.inspection.specs.declared.tally.Tally.{Tally}
 use Rattle.inspection.specs.declared.verdict.Verdict.TheVariants.{Accepted, Rejected, Undecided}
 use Rattle.plans.specs.declared.rows.LotRow.{LotRow}
-use Rattle.inspection.specs.Classes.{count_of, some_class, each_class}
-use Rattle.regimes.specs.Portions.{cusum_of, value_reached, is_over, value_held, portion_judged, starting_values, verdicts_on, verdicts_of}
-use Rattle.regimes.specs.Lots.{numbers_of, added, accepts_first, rejects_first, accepts_both, lot_judged}
+use Rattle.inspection.specs.Classes.{count_of, some_class, each_class, at_class}
+use Rattle.regimes.specs.Portions.{Values, cusum_of, value_reached, is_over, value_held, portion_judged, starting_values, verdicts_on, verdicts_of}
+use Rattle.regimes.specs.Lots.{added, accepts_first, rejects_first, accepts_both, lot_judged}
 use Rattle.regimes.specs.Promises.{NoMore, NoMoreEach, NoHigher, MoreIsNoBetter}
 use Rattle.inspection.specs.declared.class.JudgedClass.{JudgedClass}
 use Rattle.inspection.specs.declared.class.JudgedClass.TheVariants.{Critical, Major, Total}
-use Rattle.regimes.specs.declared.cusum.Values.{Values}
 use Rattle.regimes.proofs.Samples.{by_tests, count_added}
 use Rattle.regimes.proofs.Stretches.{rejected_exactly}
 use Rattle.regimes.proofs.Tried.{some_more, each_more}
@@ -59,12 +58,12 @@ module _ (r : LotRow) (t u : Tally) (m : NoMore t u) where
   accepts_fewer : each_class (accepts_first r u) ≡ true → each_class (accepts_first r t) ≡ true
   accepts_fewer =
       each_more (accepts_first r u) (accepts_first r t)
-      (λ c e. le-leb (count_of c t) (numbers_of r c).accept_first (omega (arith, leb-true (count_of c u) (numbers_of r c).accept_first e, no_more_of t u m c)))
+      (λ c e. le-leb (count_of c t) (at_class r.numbers c).accept_first (omega (arith, leb-true (count_of c u) (at_class r.numbers c).accept_first e, no_more_of t u m c)))
 
   rejects_more : some_class (rejects_first r t) ≡ true → some_class (rejects_first r u) ≡ true
   rejects_more =
       some_more (rejects_first r t) (rejects_first r u)
-      (λ c e. le-leb (numbers_of r c).reject_first (count_of c u) (omega (arith, leb-true (numbers_of r c).reject_first (count_of c t) e, no_more_of t u m c)))
+      (λ c e. le-leb (at_class r.numbers c).reject_first (count_of c u) (omega (arith, leb-true (at_class r.numbers c).reject_first (count_of c t) e, no_more_of t u m c)))
 
   first_rejected : (lot_judged (Some r) t None).0 ≡ Rejected → (lot_judged (Some r) u None).0 ≡ Rejected
   first_rejected = by (each_class (accepts_first r t)) (some_class (rejects_first r t)) (each_class (accepts_first r u)) (some_class (rejects_first r u)) accepts_fewer rejects_more
@@ -90,8 +89,8 @@ module _ (r : LotRow) (a b t u : Tally) (first : NoMore a b) (second : NoMore t 
   both_fewer =
       each_more (accepts_both r (added b u)) (accepts_both r (added a t))
       (λ c e.
-      le-leb (count_of c (added a t)) (numbers_of r c).accept_both
-      (omega (arith, leb-true (count_of c (added b u)) (numbers_of r c).accept_both e, count_added c a t, count_added c b u, no_more_of a b first c, no_more_of t u second c)))
+      le-leb (count_of c (added a t)) (at_class r.numbers c).accept_both
+      (omega (arith, leb-true (count_of c (added b u)) (at_class r.numbers c).accept_both e, count_added c a t, count_added c b u, no_more_of a b first c, no_more_of t u second c)))
 
   both_rejected : (lot_judged (Some r) t (Some a)).0 ≡ Rejected → (lot_judged (Some r) u (Some b)).0 ≡ Rejected
   both_rejected = by (each_class (accepts_both r (added a t))) (each_class (accepts_both r (added b u))) both_fewer
