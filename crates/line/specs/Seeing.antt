@@ -1,5 +1,5 @@
 -- What is seen of articles: how many, how many rejected, their units and defects.
-use Rattle.regimes.specs.declared.judge.Limits.{Limits}
+use Rattle.regimes.specs.Rules.{Limits}
 use Rattle.regimes.specs.Rules.{Rules}
 use Rattle.inspection.specs.declared.refusal.Refusal.TheVariants.{TooManyRejected, TooFewUnits, DefectsAboveLimit}
 use Rattle.inspection.specs.declared.refusal.Refusal.{Refusal}
