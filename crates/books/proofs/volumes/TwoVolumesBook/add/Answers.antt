@@ -3,7 +3,7 @@ use Rattle.std.proofs.lemmas.Bool.{true≢false}
 use Rattle.entries.specs.Entries.{writable}
 use Rattle.books.specs.Books.{answered, put, left}
 use Rattle.books.specs.Volumes.{bound, bound_room}
-use Rattle.books.proofs.Keeping.{open_to}
+use Rattle.books.proofs.Refusing.{open_to}
 use Rattle.books.proofs.Binding.{to_first, to_second, second_has}
 use Rattle.books.proofs.volumes.TwoVolumesBook.add.Goals as goal
 use Rattle.books.proofs.volumes.TwoVolumesBook.add.Goals.{else-count-eq0-via-then-count-eq0+else-room_left-gt0, else-count-eq0-via-else-count-eq0}
