@@ -7,8 +7,8 @@ use Rattle.inspection.specs.declared.refusal.Refusal.TheVariants.{UnitAboveSampl
 use Rattle.inspection.specs.declared.tally.Tally.{Tally}
 use Rattle.worksheet.specs.declared.defect.Defect.{Defect}
 use Rattle.worksheet.specs.declared.scoring.Running.{Running}
-use Rattle.worksheet.specs.Defects.{Keyed, Pair, pair, same_pair, related, falls}
-use Rattle.worksheet.specs.Pieces.{Piece, number_of, defect_of, pieces}
+use Rattle.texts.specs.Pieces.{Piece, number_of, pieces}
+use Rattle.worksheet.specs.Defects.{Keyed, Pair, pair, same_pair, related, falls, defect_of}
 use Rattle.worksheet.specs.Promises.{AtMostNine}
 use Rattle.worksheet.specs.Running.{counted, next_line, entered, closed}
 use Rattle.worksheet.specs.Scores.{falls_after, fault_of, fault, or_else, first_bad, said, defects, occurs, tally_of, unless, score_of}
@@ -165,10 +165,6 @@ Fit units t (Some b) = Keyed b × (b.unit ≤ units) × (total_of t ≤ place b)
 abbrev pub Fits : ℕ → Running → Type 0
 Fits units s = Fit units s.tally s.last
 
-pub fit_small : (units : ℕ) (t : Tally) (last : Option Defect) → Fit units t last → total_of t ≤ 99999
-fit_small units t None h = omega (arith, h)
-fit_small units t (Some b) h = omega (arith, h.2, h.0.unit_most, h.0.cause_most)
-
 places_rise : (b d : Defect) → Keyed b → Keyed d → Below (pair b) d → place b + 1 ≤ place d
 places_rise b d k l (inl lt) = omega (arith, k.unit_least, k.cause_most, l.cause_least)
 places_rise b d k l (inr lt) = omega (arith, lt.0, lt.1, k.cause_least)
@@ -199,13 +195,6 @@ going_more units s u ps qs p d r split fine says is fits h =
           ∙ sym (ap (going units s) split)
           ∙ h,
     )
-
-pub going_ends : (units : ℕ) (s : Running) (ps : List Piece) (r : Result Tally Refusal) → ps ≡ [] → going units s ps ≡ r → r ≡ Ok (closed s.tally s.last)
-going_ends units s ps r e h = sym h ∙ ap (going units s) e
-
-pub going_stops : (units : ℕ) (s : Running) (ps qs : List Piece) (p : Piece) (x : Refusal) (r : Result Tally Refusal) → ps ≡ p ∷ qs → fault units s.last p ≡ Some x → going units s ps ≡ r → r ≡ Err x
-going_stops units s ps qs p x r split bad h =
-    sym h ∙ ap (going units s) split ∙ ap (λ o. turn o (defect_of p) (λ d. going units (entered s.tally s.last d) qs)) bad
 
 -- from a running tally that fits, the score has at most nine defects a unit
 going_few : (units : ℕ) (s : Running) (ps : List Piece) → Fits units s → IfOk (going units s ps) (λ t. total_of t ≤ 9 * units)

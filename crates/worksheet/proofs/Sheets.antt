@@ -13,13 +13,13 @@ use Rattle.inspection.specs.declared.class.DefectClass.TheVariants.{Critical, Ma
 use Rattle.inspection.specs.declared.tally.Tally.{Tally}
 use Rattle.worksheet.specs.declared.defect.Defect.{Defect}
 use Rattle.worksheet.specs.declared.scoring.Running.{Running}
-use Rattle.worksheet.specs.Defects.{Keyed, written, related, falls}
-use Rattle.worksheet.specs.Pieces.{Piece, number_of, defect_of, piece, after}
+use Rattle.texts.specs.Pieces.{Piece, number_of, piece, after}
+use Rattle.texts.specs.Texts.{lines}
+use Rattle.texts.proofs.Cuts.{lines_over}
+use Rattle.worksheet.specs.Defects.{Keyed, written, related, falls, defect_of}
 use Rattle.worksheet.specs.Promises.{SomeSheetShows}
 use Rattle.worksheet.specs.Running.{counted, entered}
 use Rattle.worksheet.specs.Scores.{fault_of, falls_after}
-use Rattle.worksheet.specs.Texts.{lines}
-use Rattle.worksheet.proofs.Cuts.{lines_over}
 use Rattle.worksheet.proofs.Going.{turn, going, start, goes_whole}
 use Rattle.decimals.proofs.Reading.{own}
 use Rattle.worksheet.proofs.Tallying.{clean}

@@ -16,10 +16,10 @@ use Rattle.inspection.specs.Letters.{class_letter, class_of}
 use Rattle.inspection.specs.declared.class.DefectClass.{DefectClass}
 use Rattle.inspection.specs.declared.class.DefectClass.TheVariants.{Critical, Major, Minor}
 use Rattle.worksheet.specs.declared.defect.Defect.{Defect}
-use Rattle.worksheet.specs.Defects.{unit_form, unit_of, tail_form, tail_of, joint, written, Keyed}
-use Rattle.worksheet.specs.Pieces.{Piece, fields, bare, text_of, defect_of, by_tab, piece}
+use Rattle.texts.specs.Pieces.{Piece, fields, bare, text_of, by_tab, piece}
+use Rattle.texts.proofs.Cuts.{parted_field, text_of_piece}
+use Rattle.worksheet.specs.Defects.{unit_form, unit_of, tail_form, tail_of, joint, defect_of, written, Keyed}
 use Rattle.worksheet.specs.Promises.{ReadsBack}
-use Rattle.worksheet.proofs.Cuts.{parted_field, text_of_piece}
 
 -- nothing is not something
 pub never : {X : Type 0} {P : Type 0} {x : X} → None ≡ Some x → P
@@ -61,10 +61,6 @@ unit_forth u low high =
     let form : unit_form ds ≡ true = and_from _ _ (lt-ltb 48 (get_or ds 0 0) (first_decimal u (omega arith) small)) (le-leb (length ds) 4 short) in
     let digits : digits_form ds ≡ true = and_from _ _ (and_from _ _ (lt-ltb 0 (length ds) (decimal_nonempty u small)) (le-leb (length ds) 9 (omega arith))) (digits_decimal own u small) in
     cond-true _ _ _ form ∙ cond-true _ _ _ digits ∙ ap Some (digits_value-decimal own u small)
-
-pub no_unit : (ds : List ℕ) → length ds < 1 → None ≡ unit_of ds
-no_unit [] h = refl
-no_unit (d ∷ ds) h = absurd (omega arith)
 
 -- a unit fits its width
 pub unit_small : (ds : List ℕ) (u : ℕ) → length ds ≤ 4 → Some u ≡ numeral ds → u < 10000
