@@ -52,9 +52,10 @@ pub fn read_number(digits: &[u8]) -> Option<u32>
 pub fn write_digits(places: &mut [u8], number: u32)
     ensures { places.new ≡ padded (length places.old) number }
 {
-    if let Some((last, front)) = places.split_last_mut() {
-        *last = b'0' + (number % 10) as u8;
-        write_digits(front, number / 10);
+    let mut left = number;
+    for i in (0..places.len()).rev() {
+        places[i] = b'0' + (left % 10) as u8;
+        left /= 10;
     }
 }
 
