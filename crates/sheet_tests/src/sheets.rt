@@ -2,6 +2,7 @@
 use inspection::class::DefectClass;
 use inspection::refusal::Refusal;
 use inspection::tally::Tally;
+use std::fmt::Write;
 use std::test::Fail;
 use worksheet::defect::Defect;
 use worksheet::scoring::{read, score};
@@ -120,13 +121,19 @@ const SCORED: [Scores; 14] = [
 
 #[test]
 fn sheets_score(rt: HostRuntime) {
-    for case in SCORED.iter() {
-        let expected = Tally {
-            critical: case.critical,
-            major: case.major,
-            minor: case.minor,
+    for &Scores {
+        sheet,
+        units,
+        critical,
+        major,
+        minor,
+    } in &SCORED {
+        let tally = Tally {
+            critical,
+            major,
+            minor,
         };
-        assert_eq!(rt; score(case.sheet, case.units), Ok(expected));
+        assert_eq!(rt; score(sheet, units), Ok(tally));
     }
 }
 
@@ -324,8 +331,12 @@ const REFUSED: [Refuses; 36] = [
 
 #[test]
 fn first_bad_lines_are_named(rt: HostRuntime) {
-    for case in REFUSED.iter() {
-        assert_eq!(rt; score(case.sheet, case.units), Err(case.refusal));
+    for &Refuses {
+        sheet,
+        units,
+        refusal,
+    } in &REFUSED {
+        assert_eq!(rt; score(sheet, units), Err(refusal));
     }
 }
 
@@ -336,16 +347,11 @@ fn a_sheet_of_eighteen_thousand_lines(rt: HostRuntime) -> Result<(), Fail> {
     for unit in 1..=1000u16 {
         for cause in 1..=9u8 {
             for class in [DefectClass::Minor, DefectClass::Major] {
-                sheet.push_str(format!(in rt.alloc();
-                    "{}",
-                    Defect { unit, cause, class }
-                )?.as_str())?;
+                write!(sheet, "{}", Defect { unit, cause, class })?;
             }
         }
     }
-    let Ok(scored) = read(sheet.as_bytes(), 1000) else {
-        return Err(Fail::new("the sheet is refused"));
-    };
+    let scored = read(sheet.as_bytes(), 1000)?;
     assert_eq!(rt; scored.lines, 18000);
     assert_eq!(rt;
         scored.tally,
