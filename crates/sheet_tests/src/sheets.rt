@@ -121,19 +121,13 @@ const SCORED: [Scores; 14] = [
 
 #[test]
 fn sheets_score(rt: HostRuntime) {
-    for &Scores {
-        sheet,
-        units,
-        critical,
-        major,
-        minor,
-    } in &SCORED {
-        let tally = Tally {
-            critical,
-            major,
-            minor,
+    for case in &SCORED {
+        let expected = Tally {
+            critical: case.critical,
+            major: case.major,
+            minor: case.minor,
         };
-        assert_eq!(rt; score(sheet, units), Ok(tally));
+        assert_eq!(rt; score(case.sheet, case.units), Ok(expected));
     }
 }
 
@@ -331,12 +325,8 @@ const REFUSED: [Refuses; 36] = [
 
 #[test]
 fn first_bad_lines_are_named(rt: HostRuntime) {
-    for &Refuses {
-        sheet,
-        units,
-        refusal,
-    } in &REFUSED {
-        assert_eq!(rt; score(sheet, units), Err(refusal));
+    for case in &REFUSED {
+        assert_eq!(rt; score(case.sheet, case.units), Err(case.refusal));
     }
 }
 

@@ -6,7 +6,6 @@ use Rattle.std.proofs.lemmas.Str.Parse.{not_in_digits, digits_value_short}
 use Rattle.std.proofs.lemmas.Bool.{and_from, and_parts, eqb-true, ltb-true, leb-true, lt-ltb, le-leb, cond-true}
 use Rattle.std.specs.Option.{option_map}
 use Rattle.std.specs.Str.Parse.{digits_value}
-use lib.Utf8.{encode}
 use Rattle.std.specs.Str.{all_ascii_digits}
 use Rattle.decimals.specs.Digits.{digits_form, numeral}
 use Rattle.decimals.proofs.Reading.{own}
@@ -67,12 +66,6 @@ pub unit_small : (ds : List ℕ) (u : ℕ) → length ds ≤ 4 → Some u ≡ nu
 unit_small ds u short e =
     let fits = (numeral_back ds u (sym e)).0 in
     omega (arith, fits, pow-le-pow_right {n = 10} (omega arith) short)
-
-pub letter_encoded : (k : DefectClass) → encode (class_letter k) ≡ class_letter k ∷ []
-unfolding encode
-letter_encoded Critical = refl
-letter_encoded Major = refl
-letter_encoded Minor = refl
 
 -- a keyed defect's cause is one digit
 pub written_keyed : (d : Defect) → Keyed d → decimal d.unit ++ 9 ∷ (48 + d.cause) ∷ 9 ∷ class_letter d.class ∷ 10 ∷ [] ≡ written d
