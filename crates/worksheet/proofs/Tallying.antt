@@ -88,7 +88,7 @@ pair_same p q e =
     λ i. (unit i, cause i)
 
 pair_refl : (p : Pair) → same_pair p p ≡ true
-pair_refl p = and_from _ _ (eq-eqb p.0 p.0 refl) (eq-eqb p.1 p.1 refl)
+pair_refl p = grind (arith, nat_tests)
 
 -- two related defects score as one of the worse class
 abbrev pub merged : Defect → Defect → Defect
