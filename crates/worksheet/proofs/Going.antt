@@ -58,8 +58,7 @@ sound units last n (Some d) h = by (ltb units d.unit) refl (falls_after last d) 
     by false u false f h = record { says = d; is = refl; within = ltb-false units d.unit u; on = f }
 
 or_else_none : (a b : Option Refusal) → or_else a b ≡ None → (a ≡ None) × (b ≡ None)
-or_else_none None b h = (refl, h)
-or_else_none (Some r) b h = cc
+or_else_none a b h = grind arith
 
 -- on lines that do not fall, what comes before a line's pair does not come after it
 never_again : (units : ℕ) (d : Defect) (ps : List Piece) (q : Pair) → Below q d → first_bad units (Some d) ps ≡ None → occurs q (defects ps) ≡ false
@@ -151,8 +150,7 @@ abbrev pub Fits : ℕ → Running → Type 0
 Fits units s = Fit units s.tally s.last
 
 places_rise : (b d : Defect) → Keyed b → Keyed d → Below (pair b) d → place b + 1 ≤ place d
-places_rise b d k l (inl lt) = omega (arith, k.unit_least, k.cause_most, l.cause_least)
-places_rise b d k l (inr lt) = omega (arith, lt.0, lt.1, k.cause_least)
+places_rise b d k l lt = grind arith
 
 pub fit_next : (units : ℕ) (t : Tally) (last : Option Defect) (d : Defect) → Fit units t last → Keyed d → d.unit ≤ units → falls_after last d ≡ false → Fits units (entered t last d)
 fit_next units t None d h k within on = (k, within, omega (arith, h))
@@ -165,8 +163,7 @@ fit_next units t (Some b) d h k within on = by (related b d) refl
     by false z = (k, within, omega (arith, total_counted t b.class, h.2, places_rise b d h.0 k (rises b d z on)))
 
 pub fit_closed : (units : ℕ) (t : Tally) (last : Option Defect) → Fit units t last → total_of (closed t last) ≤ 9 * units
-fit_closed units t None h = omega (arith, h)
-fit_closed units t (Some b) h = omega (arith, total_counted t b.class, h.2, h.1, h.0.unit_least, h.0.cause_most)
+fit_closed units t last h = grind (arith, total_counted)
 
 -- one line more, which has no fault
 pub going_more : (units : ℕ) (s u : Running) (ps qs : List Piece) (p : Piece) (d : Defect) (r : Result Tally Refusal) → ps ≡ p ∷ qs → fault units s.last p ≡ None → defect_of p ≡ Some d → u ≡ entered s.tally s.last d → Fits units s → going units s ps ≡ r → Fits units u × (going units u qs ≡ r)

@@ -27,9 +27,7 @@ use Rattle.worksheet.proofs.Tallying.{clean}
 use Rattle.worksheet.proofs.Written.{line_forth, written_keyed}
 
 letter_no_feed : (c : DefectClass) → eqb (class_letter c) 10 ≡ false
-letter_no_feed Critical = refl
-letter_no_feed Major = refl
-letter_no_feed Minor = refl
+letter_no_feed c = grind arith
 
 abbrev ending : Defect → List ℕ
 ending d = 9 ∷ (48 + d.cause) ∷ 9 ∷ class_letter d.class ∷ 10 ∷ []
@@ -72,10 +70,10 @@ next_rises k =
     ⊎_elim (λ up. inl up) (λ stay. inr (omega arith, omega arith)) (cases_lt (k / 9) ((k + 1) / 9))
 
 not_falling : (k : ℕ) (a b : DefectClass) → falls (at_place (k + 1) b) (at_place k a) ≡ false
-not_falling k a b = let next = next_rises k in grind (arith, nat_tests)
+not_falling k a b = grind (arith, nat_tests, next_rises k)
 
 not_related : (k : ℕ) (a b : DefectClass) → related (at_place k a) (at_place (k + 1) b) ≡ false
-not_related k a b = let next = next_rises k in grind (arith, nat_tests)
+not_related k a b = grind (arith, nat_tests, next_rises k)
 
 -- defects of these classes, one place after another
 abbrev row : ℕ → List DefectClass → List Defect

@@ -96,9 +96,7 @@ tail_back (a ∷ b ∷ c ∷ d ∷ []) t e = by (tail_form a b d) refl (class_of
 tail_back (a ∷ b ∷ c ∷ d ∷ f ∷ bs) t e = cc
 
 class_forth : (k : DefectClass) → class_of (class_letter k) ≡ Some k
-class_forth Critical = refl
-class_forth Major = refl
-class_forth Minor = refl
+class_forth k = grind arith
 
 tail_forth : (n : ℕ) (k : DefectClass) → 1 ≤ n → n ≤ 9 → tail_of ((48 + n) ∷ 9 ∷ class_letter k ∷ 10 ∷ []) ≡ Some (n, k)
 tail_forth n k low high =
