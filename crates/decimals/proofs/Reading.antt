@@ -42,14 +42,5 @@ whole_read ds i n r done =
     ap Some (r.reads ∙ ap (λ l. clipped (digits_value 10 l)) all) ∙ sym (cond-true (all_ascii_digits ds) (Some (clipped (digits_value 10 ds))) None form)
 
 -- nine digits fit
-pub few_read : (ds : List ℕ) → 0 < length ds → length ds ≤ 9 → all_read ds ≡ numeral ds
-unfolding numeral
-few_read ds some few = grind (arith, nat_tests, digits_value_short own ds 9)
-
-pub led_read : (ds : List ℕ) → led ds ≡ true → all_read ds ≡ option_map clipped (number ds)
-unfolding number
-led_read ds first = grind arith
-
-pub not_led : (ds : List ℕ) → led ds ≡ false → None ≡ option_map clipped (number ds)
-unfolding number
-not_led ds other = grind arith
+pub nine_fit : (ds : List ℕ) → all_ascii_digits ds ≡ true → length ds ≤ 9 → clipped (digits_value 10 ds) ≡ digits_value 10 ds
+nine_fit ds form few = omega (arith, digits_value_short own ds 9 form few)

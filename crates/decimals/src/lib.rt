@@ -19,6 +19,7 @@ fn read_all(digits: &[u8]) -> Option<u32>
 }
 
 // The number that one to nine digits write; no other bytes write one.
+#[tactic(auto, using(crate::proofs::Reading::nine_fit), unfolding(crate::specs::Digits::numeral))]
 pub fn read_digits(digits: &[u8]) -> Option<u32>
     ensures { result ≡ numeral digits.now }
 {
@@ -39,6 +40,7 @@ fn is_led(digits: &[u8]) -> bool
 }
 
 // The number that digits write without leading zero, however many they are; one that does not fit is read as the largest that does.
+#[tactic(auto, unfolding(crate::specs::Digits::number))]
 pub fn read_number(digits: &[u8]) -> Option<u32>
     ensures { result ≡ option_map clipped (plain_number digits.now) }
 {
