@@ -119,8 +119,7 @@ text_of_piece n bs = by (parted bs) refl
     by (Some p) e = parted_whole bs p.0 p.1 e
 
 joined_onto : (b : ℕ) (ls : List (List ℕ)) → flat_map (λ l. l) (onto b ls) ≡ b ∷ flat_map (λ l. l) ls
-joined_onto b [] = refl
-joined_onto b (l ∷ ls) = refl
+joined_onto b ls = grind arith
 
 joined_lines : (bs : List ℕ) → flat_map (λ l. l) (lines bs) ≡ bs
 joined_lines [] = refl
@@ -138,8 +137,7 @@ pub whole : (text : List ℕ) → Whole text
 whole text = joined_after 0 (lines text) ∙ joined_lines text
 
 number_of_piece : (n : ℕ) (bs : List ℕ) (o : Option (List ℕ × List ℕ)) → number_of (by_tab n bs o) ≡ n
-number_of_piece n bs None = refl
-number_of_piece n bs (Some p) = refl
+number_of_piece n bs o = grind arith
 
 numbered_after : (n : ℕ) (ls : List (List ℕ)) (k : ℕ) (p : Piece) → k < length (after n ls) → number_of (get_or (after n ls) k p) ≡ n + k + 1
 numbered_after n [] k p lt = absurd (omega arith)
