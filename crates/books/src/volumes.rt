@@ -3,7 +3,7 @@ ghost use Rattle.std.specs.Prelude.{◌≡◌};
 ghost use Rattle.books.specs.Volumes.{bound, bound_room};
 ghost use Rattle.books.specs.Bounds.{bound_few};
 
-use crate::book::{Book, LARGEST};
+use crate::book::{Book, LARGEST, admit};
 use entries::entry::Entry;
 use inspection::refusal::Refusal;
 
@@ -55,12 +55,7 @@ impl<A: Book, B: Book> Book for TwoVolumes<A, B> {
     }
 
     fn add(&mut self, entry: Entry) -> Result<(), Refusal> {
-        if self.room_left() == 0 {
-            return Err(Refusal::NoRoom);
-        }
-        if !entry.is_writable() {
-            return Err(Refusal::EntryUnwritable);
-        }
+        admit(self.room_left(), &entry)?;
         if self.second.count() == 0 && self.first.room_left() > 0 {
             self.first.add(entry)
         } else {
