@@ -79,10 +79,10 @@ to_second es fs fs2 r s s2 e some fine full goes less =
     let all : bound es fs ≡ es ++ fs = whole (es ++ fs) (omega (arith, length-append es fs)) in
     let all2 : bound es fs2 ≡ es ++ fs2 = whole (es ++ fs2) (omega (arith, length-append es fs2)) in
     let last : min s2 (9999999 - length (bound es fs2)) ≡ bound_room es fs r s - 1 =
-        ⊎_elim
-        (λ empty. let none = full empty in omega (arith, room_empty es fs r s empty, ap length all, ap length all2, length-append es fs, length-append es fs2))
-        (λ begun. omega (arith, room_begun es fs r s begun, ap length all, ap length all2, length-append es fs, length-append es fs2))
-        (cases_eq (length fs) 0) in
+    ⊎_elim
+    (λ empty. let none = full empty in omega (arith, room_empty es fs r s empty, ap length all, ap length all2, length-append es fs, length-append es fs2))
+    (λ begun. omega (arith, room_begun es fs r s begun, ap length all, ap length all2, length-append es fs, length-append es fs2))
+    (cases_eq (length fs) 0) in
     record {
       entries = all2 ∙ ap (λ l. es ++ l) is ∙ sym (append_assoc es fs (e ∷ [])) ∙ ap (λ l. l ++ e ∷ []) (sym all) ∙ ap (λ o. put o (bound es fs) e) takes;
       room = room_begun es fs2 r s2 (λ z. omega arith) ∙ last ∙ ap (λ o. left o (bound_room es fs r s)) takes;
