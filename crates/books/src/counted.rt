@@ -23,11 +23,9 @@ impl<P: Places> CountedBook<P> {
         ensures memory { result.memory ≡ memory }
         ensures count { result.count ≡ cut count (length (P.standing memory)) }
     {
-        let places = memory.places().min(LARGEST as usize);
-        CountedBook {
-            memory,
-            count: count.min(places),
-        }
+        let mut book = CountedBook { memory, count: 0 };
+        book.count = count.min(book.capacity());
+        book
     }
 
     // How many entries it can come to hold.
