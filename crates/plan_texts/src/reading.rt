@@ -46,7 +46,7 @@ impl fmt::Display for PlanError {
 
     fn fmt<W: fmt::Write>(&self, f: &mut fmt::Formatter<W>) -> fmt::Result {
         match self {
-            PlanError::Refused(refusal) => write!(f, "{refusal}"),
+            PlanError::Refused(why) => write!(f, "{why}"),
             PlanError::NoMemory => f.write_str("no memory for the plan"),
         }
     }
