@@ -69,16 +69,16 @@ fn classes_kept(row: &LotRow) -> bool
 fn lot_row_kept(row: &LotRow) -> bool
     ensures { result ≡ lot_row_kept row.now }
 {
-    in_width(row.lowest_size)
-        && samples_kept(row)
-        && classes_kept(row)
+    in_width(row.lowest_size) && samples_kept(row) && classes_kept(row)
 }
 
 fn limit_row_kept(row: &LimitRow) -> bool
     ensures { result ≡ limit_row_kept row.now }
 {
     in_width(row.lowest_units)
-        && JudgedClass::ALL.iter().all(|class| in_width(row.limits.of(*class)))
+        && JudgedClass::ALL
+            .iter()
+            .all(|class| in_width(row.limits.of(*class)))
 }
 
 // A later status, or the same one and larger lots.
