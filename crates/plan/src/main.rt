@@ -13,7 +13,11 @@ fn print_lot_row(rt: &HostRuntime, row: &LotRow) -> anyhow::Result<()> {
         "  {}, lots from {}: first sample {}, both {}",
         row.status, row.lowest_size, row.first_sample, row.total_sample,
     )?;
-    let PerClass { critical, major, total } = row.numbers;
+    let PerClass {
+        critical,
+        major,
+        total,
+    } = row.numbers;
     for (name, numbers) in [("critical", critical), ("major", major), ("total", total)] {
         println!(rt;
             "    {name}: first sample accepted to {}, rejected from {}, both accepted to {}",
@@ -24,7 +28,11 @@ fn print_lot_row(rt: &HostRuntime, row: &LotRow) -> anyhow::Result<()> {
 }
 
 fn print_limit_row(rt: &HostRuntime, row: &LimitRow) -> anyhow::Result<()> {
-    let PerClass { critical, major, total } = row.limits;
+    let PerClass {
+        critical,
+        major,
+        total,
+    } = row.limits;
     println!(rt;
         "  relief, from {} units: critical {critical}, major {major}, total {total}",
         row.lowest_units,
