@@ -31,13 +31,9 @@ going_more lots limits last row p ps qs more further now split good says is fur 
     ap (going lots limits last) split ∙ (λ i. both (bad i) (lotsNow i) (limitsNow i))
 
 -- the last line is read
-pub going_end : (lots : List LotRow) (limits : List LimitRow) (last : Option Row) (qs : List Piece) → qs ≡ [] → going lots limits last qs ≡ unless (counted lots limits) (lots, limits)
+going_end : (lots : List LotRow) (limits : List LimitRow) (last : Option Row) (qs : List Piece) → qs ≡ [] → going lots limits last qs ≡ unless (counted lots limits) (lots, limits)
 going_end lots limits last qs none =
     ap (going lots limits last) none ∙ (λ i. unless (counted (append-nil lots i) (append-nil limits i)) (append-nil lots i, append-nil limits i))
-
-pub plan_taken : (text : List ℕ) (lots : List LotRow) (limits : List LimitRow) (last : Option Row) (qs : List Piece) → going lots limits last qs ≡ plan_of text → qs ≡ [] → counts_kept lots limits ≡ true → plan_of text ≡ Ok (lots, limits)
-plan_taken text lots limits last qs h none k =
-    sym h ∙ going_end lots limits last qs none ∙ ap (λ t. unless (cond t None (Some PlanRowCountsWrong)) (lots, limits)) k
 
 -- no lot row comes after a limit row
 abbrev lots_wait : Option Row → List LotRow → Type 0
@@ -81,8 +77,8 @@ kept_said last (p ∷ ps) e = by (row_of p) (λ o. kept_said o ps) e
     by None h e = cc
     by (Some r) h e = by_tests r (row_kept r) refl (follows_after last r) refl e (h (Some r))
 
--- a text that is taken has rows that keep all that is asked of a plan
-pub plan_keeps : (text : List ℕ) (lots : List LotRow) (limits : List LimitRow) → plan_of text ≡ Ok (lots, limits) → keeps lots limits ≡ true
+-- the rows of a text that is taken keep all that is asked of a plan
+plan_keeps : (text : List ℕ) (lots : List LotRow) (limits : List LimitRow) → plan_of text ≡ Ok (lots, limits) → keeps lots limits ≡ true
 plan_keeps text lots limits e =
     by (first_bad None (pieces text)) refl (counts_kept (lots_said (pieces text)) (limits_said (pieces text))) refl e
   where
@@ -93,3 +89,8 @@ plan_keeps text lots limits e =
         subst (λ q. keeps q.0 q.1 ≡ true) same (and_from _ _ (and_from _ _ (and_from _ _ h.lots_kept h.limits_kept) (and_from _ _ h.lots_order h.limits_order)) k)
     by None b false k e = cc
     by (Some r) b k g e = cc
+
+-- so do the rows that are read when the last line is
+pub plan_read : (text : List ℕ) (lots : List LotRow) (limits : List LimitRow) (last : Option Row) (qs : List Piece) → going lots limits last qs ≡ plan_of text → qs ≡ [] → counts_kept lots limits ≡ true → keeps lots limits ≡ true
+plan_read text lots limits last qs h none k =
+    plan_keeps text lots limits (sym h ∙ going_end lots limits last qs none ∙ ap (λ t. unless (cond t None (Some PlanRowCountsWrong)) (lots, limits)) k)

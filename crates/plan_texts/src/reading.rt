@@ -117,7 +117,7 @@ impl Running {
 }
 
 // The plan book of a text, which is taken whole or refused at its first bad line.
-#[tactic(auto, using(crate::proofs::PlanReading::going_more))]
+#[tactic(auto, using(crate::proofs::PlanReading::going_more, crate::proofs::PlanReading::plan_read))]
 pub fn read_plan(text: &[u8], heap: Global) -> Result<PlanBook, PlanError>
     ensures { Answers text.now result }
 {
