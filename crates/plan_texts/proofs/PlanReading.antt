@@ -1,5 +1,5 @@
 -- Reading a plan text row by row, and what a text that is taken keeps.
-use Rattle.std.proofs.Common.{◌≡◌, ℕ, Bool, true, false, cond, List, [], ◌∷◌, ◌++◌, Some, None, Ok, Option, Result, sym, refl, ap, ◌∙◌, subst}
+use Rattle.std.proofs.Common.{◌≡◌, ℕ, Bool, true, false, cond, List, [], ◌∷◌, ◌++◌, Some, None, Ok, Option, Result, sym, refl, ap, ◌∙◌, subst, rules}
 use Rattle.std.specs.Option.{option_or}
 use Rattle.std.proofs.lemmas.List.{append_assoc, append-nil}
 use Rattle.std.proofs.lemmas.Bool.{and_from}
@@ -50,17 +50,12 @@ record Kept (last : Option Row) (lots : List LotRow) (limits : List LimitRow) : 
   no_lots : lots_wait last lots
 
 kept_more : (last : Option Row) (r : Row) (lots : List LotRow) (limits : List LimitRow) → row_kept r ≡ true → follows_after last r ≡ true → Kept (Some r) lots limits → Kept last (lot_said (Some r) lots) (limit_said (Some r) limits)
-kept_more None (Lot w) lots limits k f h =
-    record { lots_kept = and_from _ _ k h.lots_kept; limits_kept = h.limits_kept; lots_order = h.lots_order; limits_order = h.limits_order; no_lots = tt }
-kept_more None (Limit m) lots limits k f h =
-    record { lots_kept = h.lots_kept; limits_kept = and_from _ _ k h.limits_kept; lots_order = h.lots_order; limits_order = h.limits_order; no_lots = tt }
-kept_more (Some (Lot a)) (Lot w) lots limits k f h =
-    record { lots_kept = and_from _ _ k h.lots_kept; limits_kept = h.limits_kept; lots_order = and_from _ _ f h.lots_order; limits_order = h.limits_order; no_lots = tt }
-kept_more (Some (Lot a)) (Limit m) lots limits k f h =
-    record { lots_kept = h.lots_kept; limits_kept = and_from _ _ k h.limits_kept; lots_order = ap (λ l. in_order lot_row_follows (a ∷ l)) h.no_lots; limits_order = h.limits_order; no_lots = tt }
+kept_more None (Lot w) lots limits k f h = search (rules, and_from)
+kept_more None (Limit m) lots limits k f h = search (rules, and_from)
+kept_more (Some (Lot a)) (Lot w) lots limits k f h = search (rules, and_from)
+kept_more (Some (Lot a)) (Limit m) lots limits k f h = search (rules, and_from)
 kept_more (Some (Limit a)) (Lot w) lots limits k f h = cc
-kept_more (Some (Limit a)) (Limit m) lots limits k f h =
-    record { lots_kept = h.lots_kept; limits_kept = and_from _ _ k h.limits_kept; lots_order = h.lots_order; limits_order = and_from _ _ f h.limits_order; no_lots = h.no_lots }
+kept_more (Some (Limit a)) (Limit m) lots limits k f h = search (rules, and_from)
 
 kept_said : (last : Option Row) (ps : List Piece) → first_bad last ps ≡ None → Kept last (lots_said ps) (limits_said ps)
 kept_said None [] e = record { lots_kept = refl; limits_kept = refl; lots_order = refl; limits_order = refl; no_lots = tt }

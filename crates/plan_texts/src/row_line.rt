@@ -66,7 +66,7 @@ impl<T: Field> Field for PerClass<T> {
 }
 
 // What follows the status of a lot row.
-#[tactic(auto, unfolding(crate::specs::RowLines::lot_row_in))]
+#[tactic(auto, using(crate::proofs::Fields::at_end_then), unfolding(crate::specs::RowLines::lot_row_in))]
 fn read_lot_row(status: Status, bytes: &[u8]) -> Option<LotRow>
     ensures { result ≡ lot_row_in status bytes.now }
 {
