@@ -1,3 +1,2 @@
-pub mod Three
 pub mod Fields
 pub mod PlanReading

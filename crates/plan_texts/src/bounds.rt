@@ -1,6 +1,6 @@
 // What each row of a plan keeps, and which row may follow it.
 ghost use Rattle.std.specs.Prelude.{◌≡◌};
-ghost use Rattle.inspection.specs.Classes.{at_class, each_class};
+ghost use Rattle.inspection.specs.Classes.{at_class};
 ghost use Rattle.plans.specs.Plans.{in_width, class_in_width, class_order, class_single, class_kept, samples_kept, lot_row_kept, limit_row_kept, lot_row_follows, limit_row_follows};
 ghost use Rattle.plan_texts.specs.PlanTexts.{row_kept, row_follows};
 
@@ -60,25 +60,21 @@ fn samples_kept(row: &LotRow) -> bool
         && row.total_sample <= row.lowest_size
 }
 
-fn classes_kept(row: &LotRow) -> bool
-    ensures { result ≡ each_class (λ class. class_kept row.now (at_class row.now.numbers class)) }
-{
-    JudgedClass::ALL.iter().all(|class| class_kept(row, *class))
-}
-
 fn lot_row_kept(row: &LotRow) -> bool
     ensures { result ≡ lot_row_kept row.now }
 {
     in_width(row.lowest_size)
         && samples_kept(row)
-        && classes_kept(row)
+        && JudgedClass::ALL.iter().all(|class| class_kept(row, *class))
 }
 
 fn limit_row_kept(row: &LimitRow) -> bool
     ensures { result ≡ limit_row_kept row.now }
 {
     in_width(row.lowest_units)
-        && JudgedClass::ALL.iter().all(|class| in_width(row.limits.of(*class)))
+        && JudgedClass::ALL
+            .iter()
+            .all(|class| in_width(row.limits.of(*class)))
 }
 
 // A later status, or the same one and larger lots.

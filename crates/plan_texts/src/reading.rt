@@ -46,7 +46,7 @@ impl fmt::Display for PlanError {
 
     fn fmt<W: fmt::Write>(&self, f: &mut fmt::Formatter<W>) -> fmt::Result {
         match self {
-            PlanError::Refused(refusal) => write!(f, "{refusal}"),
+            PlanError::Refused(why) => write!(f, "{why}"),
             PlanError::NoMemory => f.write_str("no memory for the plan"),
         }
     }
@@ -117,6 +117,7 @@ impl Running {
 }
 
 // The plan book of a text, which is taken whole or refused at its first bad line.
+#[tactic(auto, using(crate::proofs::PlanReading::going_more, crate::proofs::PlanReading::plan_read))]
 pub fn read_plan(text: &[u8], heap: Global) -> Result<PlanBook, PlanError>
     ensures { Answers text.now result }
 {

@@ -23,6 +23,7 @@ trait Field: Copy {
 impl Field for u32 {
     ghost said_to = { number_to };
 
+    #[tactic(auto, using(crate::proofs::Fields::no_end, crate::proofs::Fields::no_number, crate::proofs::Fields::one_number))]
     fn take(bytes: &[u8], end: u8) -> Option<(u32, &[u8])> {
         let at = position(bytes, end)?;
         let number = read_number(&bytes[..at])?;
@@ -65,7 +66,7 @@ impl<T: Field> Field for PerClass<T> {
 }
 
 // What follows the status of a lot row.
-#[tactic(auto, unfolding(crate::specs::RowLines::lot_row_in))]
+#[tactic(auto, using(crate::proofs::Fields::at_end_then), unfolding(crate::specs::RowLines::lot_row_in))]
 fn read_lot_row(status: Status, bytes: &[u8]) -> Option<LotRow>
     ensures { result ≡ lot_row_in status bytes.now }
 {
@@ -96,6 +97,7 @@ fn read_limit_row(bytes: &[u8]) -> Option<LimitRow>
 }
 
 // What follows the kind of a lot row.
+#[tactic(auto, using(crate::proofs::Fields::lot_in_by))]
 fn read_lot(bytes: &[u8]) -> Option<LotRow>
     ensures { result ≡ lot_in bytes.now }
 {
