@@ -70,7 +70,7 @@ pair_refl p = grind (arith, nat_tests)
 
 -- two related defects score as one of the worse class
 abbrev pub merged : Defect → Defect → Defect
-merged b d = record { unit = b.unit; cause = b.cause; class = worse b.class d.class }
+merged b d = record b { class = worse b.class d.class }
 
 worst_merged : (b d : Defect) (ds : List Defect) → pair b ≡ pair d → (q : Pair) → worst (b ∷ d ∷ ds) q ≡ worst (merged b d ∷ ds) q
 worst_merged b d ds e q =
