@@ -33,9 +33,7 @@ abbrev ending : Defect → List ℕ
 ending d = 9 ∷ (48 + d.cause) ∷ 9 ∷ class_letter d.class ∷ 10 ∷ []
 
 lines_ending : (d : Defect) (rest : List ℕ) → lines (ending d ++ rest) ≡ ending d ∷ lines rest
-lines_ending d rest =
-    let digit : eqb (48 + d.cause) 10 ≡ false = ne_eqb (48 + d.cause) 10 (λ e. omega arith) in
-    simp (digit, letter_no_feed d.class)
+lines_ending d rest = grind (arith, nat_tests, letter_no_feed)
 
 lines_written : (d : Defect) (rest : List ℕ) → Keyed d → lines (written d ++ rest) ≡ written d ∷ lines rest
 lines_written d rest k =
@@ -62,12 +60,7 @@ within units k c lt = let whole = div-add-mod k 9 in omega arith
 
 -- the next place neither falls nor is related
 next_rises : (k : ℕ) → (k / 9 < (k + 1) / 9) ⊎ ((k / 9 ≡ (k + 1) / 9) × (k % 9 < (k + 1) % 9))
-next_rises k =
-    let whole = div-add-mod k 9 in
-    let next = div-add-mod (k + 1) 9 in
-    let low = mod-lt k {m = 9} (omega arith) in
-    let less = mod-lt (k + 1) {m = 9} (omega arith) in
-    ⊎_elim (λ up. inl up) (λ stay. inr (omega arith, omega arith)) (cases_lt (k / 9) ((k + 1) / 9))
+next_rises k = grind (arith, div-add-mod, mod-lt)
 
 not_falling : (k : ℕ) (a b : DefectClass) → falls (at_place (k + 1) b) (at_place k a) ≡ false
 not_falling k a b = grind (arith, nat_tests, next_rises k)

@@ -82,9 +82,7 @@ worst_merged b d ds e q =
     by false = refl
 
 pairs_merged : (b d : Defect) (ds : List Defect) → pair b ≡ pair d → pairs (b ∷ d ∷ ds) ≡ pairs (merged b d ∷ ds)
-pairs_merged b d ds e =
-    let met : occurs (pair b) (d ∷ ds) ≡ true = or_left _ _ (subst (λ r. same_pair (pair d) r ≡ true) (sym e) (pair_refl (pair d))) in
-    cond-true (occurs (pair b) (d ∷ ds)) _ _ met ∙ ap (λ r. cond (occurs r ds) (pairs ds) (r ∷ pairs ds)) (sym e)
+pairs_merged b d ds e = grind (arith, nat_tests)
 
 pub tally_merged : (b d : Defect) (ds : List Defect) → pair b ≡ pair d → tally_of (b ∷ d ∷ ds) ≡ tally_of (merged b d ∷ ds)
 tally_merged b d ds e =
@@ -104,10 +102,7 @@ apart_from b (d ∷ ds) h =
 
 worst_absent : (q : Pair) (ds : List Defect) → occurs q ds ≡ false → worst ds q ≡ Minor
 worst_absent q [] h = refl
-worst_absent q (d ∷ ds) h =
-    let parts = or_parts (same_pair (pair d) q) _ h in
-    let other : same_pair q (pair d) ≡ false = pair_flip (pair d) q parts.0 in
-    cond-false (same_pair q (pair d)) _ _ other ∙ worst_absent q ds parts.1
+worst_absent q (d ∷ ds) h = grind (arith, nat_tests, worst_absent q ds)
 
 pub tally_fresh : (b : Defect) (ds : List Defect) → occurs (pair b) ds ≡ false → tally_of (b ∷ ds) ≡ counted (tally_of ds) b.class
 tally_fresh b ds h =
