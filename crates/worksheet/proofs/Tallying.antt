@@ -1,12 +1,12 @@
 -- Tallies of distinct pairs: a related defect and a new one.
-use Rattle.std.proofs.Common.{◌≡◌, ℕ, ◌+◌, Bool, true, false, cond, eqb, List, [], ◌∷◌, sym, refl, ap, ◌∙◌, subst, zero-add, arith}
+use Rattle.std.proofs.Common.{◌≡◌, ℕ, ◌+◌, Bool, true, false, cond, List, [], ◌∷◌, sym, refl, ap, ◌∙◌, subst, arith}
 use Rattle.std.proofs.lemmas.List.Sums.{sum_by-cons}
-use Rattle.std.proofs.lemmas.Bool.{and_parts, and_from, eqb-true, eq-eqb, cond-true, cond-false, or_left, or_parts}
+use Rattle.std.proofs.lemmas.Bool.{cond-true, cond-false}
 use Rattle.std.proofs.lemmas.Bool.Decides.{nat_tests}
 use Rattle.std.specs.List.{AllByRecursion as All}
 use Rattle.inspection.specs.Tallies.{worse, total_of}
 use Rattle.inspection.specs.declared.class.DefectClass.{DefectClass}
-use Rattle.inspection.specs.declared.class.DefectClass.TheVariants.{Critical, Major, Minor}
+use Rattle.inspection.specs.declared.class.DefectClass.TheVariants.{Minor}
 use Rattle.inspection.specs.declared.tally.Tally.{Tally}
 use Rattle.worksheet.specs.declared.defect.Defect.{Defect}
 use Rattle.worksheet.specs.Defects.{Pair, pair, same_pair}
@@ -92,13 +92,7 @@ tally_merged b d ds e =
 -- a defect of a new pair counts by its own class
 apart_from : (b : Defect) (ds : List Defect) → occurs (pair b) ds ≡ false → All (λ q. same_pair q (pair b) ≡ false) (pairs ds)
 apart_from b [] h = tt
-apart_from b (d ∷ ds) h =
-    let parts = or_parts (same_pair (pair d) (pair b)) _ h in
-    by (occurs (pair d) ds) parts.0 (apart_from b ds parts.1)
-  where
-    by : (t : Bool) → same_pair (pair d) (pair b) ≡ false → All (λ q. same_pair q (pair b) ≡ false) (pairs ds) → All (λ q. same_pair q (pair b) ≡ false) (cond t (pairs ds) (pair d ∷ pairs ds))
-    by true x xs = xs
-    by false x xs = (x, xs)
+apart_from b (d ∷ ds) h = grind (arith, nat_tests, apart_from b ds)
 
 worst_absent : (q : Pair) (ds : List Defect) → occurs q ds ≡ false → worst ds q ≡ Minor
 worst_absent q [] h = refl

@@ -1,5 +1,5 @@
 -- A line says a defect exactly where it is that defect's line.
-use Rattle.std.proofs.Common.{◌≡◌, ℕ, zero, suc, ◌+◌, ◌-◌, ◌^◌, ◌<◌, ◌≤◌, Bool, true, false, cond, ◌&&◌, eqb, ltb, leb, List, [], ◌∷◌, ◌++◌, length, get_or, Some, None, decimal, Option, sym, refl, ap, ◌∙◌, subst, arith}
+use Rattle.std.proofs.Common.{◌≡◌, ℕ, ◌+◌, ◌-◌, ◌^◌, ◌<◌, ◌≤◌, Bool, true, false, cond, ◌&&◌, eqb, ltb, leb, List, [], ◌∷◌, ◌++◌, length, get_or, Some, None, decimal, Option, sym, refl, ap, ◌∙◌, subst, arith}
 use native.Mathlib.Nat.{pow-le-pow_right}
 use Rattle.std.proofs.lemmas.Fmt.{decimal_digit, decimal-digits_value, digits_decimal, digits_value-decimal, length-decimal-le, first_decimal, decimal_nonempty}
 use Rattle.std.proofs.lemmas.Str.Parse.{not_in_digits, digits_value_short}
@@ -65,7 +65,7 @@ unit_small ds u short e =
 
 -- a keyed defect's cause is one digit
 pub written_keyed : (d : Defect) → Keyed d → decimal d.unit ++ 9 ∷ (48 + d.cause) ∷ 9 ∷ class_letter d.class ∷ 10 ∷ [] ≡ written d
-written_keyed d k = ap (λ c. decimal d.unit ++ (9 ∷ (c ++ (9 ∷ class_letter d.class ∷ 10 ∷ [])))) (sym (decimal_digit d.cause (omega (arith, k.cause_most))))
+written_keyed d k = grind (arith, decimal_digit)
 
 -- what follows the unit, likewise
 abbrev Tail : List ℕ → ℕ × DefectClass → Type 0
