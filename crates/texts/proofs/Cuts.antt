@@ -4,7 +4,7 @@ use Rattle.std.proofs.lemmas.List.{take_rest, take_all, drop_all, length-take, l
 use Rattle.std.proofs.lemmas.Bool.{ne_eqb, eq-eqb, eqb-true, cases_lt}
 use Rattle.std.specs.List.{flat_map}
 use Rattle.texts.specs.Texts.{onto, lines, before, parted_by, parted, Free, Unmarked, LineEnd}
-use Rattle.texts.specs.Pieces.{Piece, fields, bare, number_of, text_of, by_tab, piece, after, pieces, Whole, Numbered}
+use Rattle.texts.specs.Pieces.{Piece, fields, bare, number_of, text_of, by_tab, piece, after, Whole, Numbered}
 
 free_tail : (x n b : ℕ) (bs : List ℕ) → Free x (suc n) (b ∷ bs) → Free x n bs
 free_tail x n b bs f k lt = f (suc k) (omega arith)

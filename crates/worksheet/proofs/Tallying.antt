@@ -1,12 +1,12 @@
 -- Tallies of distinct pairs: a related defect and a new one.
-use Rattle.std.proofs.Common.{◌≡◌, ℕ, ◌+◌, Bool, true, false, cond, eqb, List, [], ◌∷◌, sym, refl, ap, ◌∙◌, subst, zero-add, arith}
+use Rattle.std.proofs.Common.{◌≡◌, ℕ, ◌+◌, Bool, true, false, cond, List, [], ◌∷◌, sym, refl, ap, ◌∙◌, subst, arith}
 use Rattle.std.proofs.lemmas.List.Sums.{sum_by-cons}
-use Rattle.std.proofs.lemmas.Bool.{and_parts, and_from, eqb-true, eq-eqb, cond-true, cond-false, or_left, or_parts}
+use Rattle.std.proofs.lemmas.Bool.{cond-true, cond-false}
 use Rattle.std.proofs.lemmas.Bool.Decides.{nat_tests}
 use Rattle.std.specs.List.{AllByRecursion as All}
 use Rattle.inspection.specs.Tallies.{worse, total_of}
 use Rattle.inspection.specs.declared.class.DefectClass.{DefectClass}
-use Rattle.inspection.specs.declared.class.DefectClass.TheVariants.{Critical, Major, Minor}
+use Rattle.inspection.specs.declared.class.DefectClass.TheVariants.{Minor}
 use Rattle.inspection.specs.declared.tally.Tally.{Tally}
 use Rattle.worksheet.specs.declared.defect.Defect.{Defect}
 use Rattle.worksheet.specs.Defects.{Pair, pair, same_pair}
@@ -70,7 +70,7 @@ pair_refl p = grind (arith, nat_tests)
 
 -- two related defects score as one of the worse class
 abbrev pub merged : Defect → Defect → Defect
-merged b d = record { unit = b.unit; cause = b.cause; class = worse b.class d.class }
+merged b d = record b { class = worse b.class d.class }
 
 worst_merged : (b d : Defect) (ds : List Defect) → pair b ≡ pair d → (q : Pair) → worst (b ∷ d ∷ ds) q ≡ worst (merged b d ∷ ds) q
 worst_merged b d ds e q =
@@ -82,9 +82,7 @@ worst_merged b d ds e q =
     by false = refl
 
 pairs_merged : (b d : Defect) (ds : List Defect) → pair b ≡ pair d → pairs (b ∷ d ∷ ds) ≡ pairs (merged b d ∷ ds)
-pairs_merged b d ds e =
-    let met : occurs (pair b) (d ∷ ds) ≡ true = or_left _ _ (subst (λ r. same_pair (pair d) r ≡ true) (sym e) (pair_refl (pair d))) in
-    cond-true (occurs (pair b) (d ∷ ds)) _ _ met ∙ ap (λ r. cond (occurs r ds) (pairs ds) (r ∷ pairs ds)) (sym e)
+pairs_merged b d ds e = grind (arith, nat_tests)
 
 pub tally_merged : (b d : Defect) (ds : List Defect) → pair b ≡ pair d → tally_of (b ∷ d ∷ ds) ≡ tally_of (merged b d ∷ ds)
 tally_merged b d ds e =
@@ -94,20 +92,11 @@ tally_merged b d ds e =
 -- a defect of a new pair counts by its own class
 apart_from : (b : Defect) (ds : List Defect) → occurs (pair b) ds ≡ false → All (λ q. same_pair q (pair b) ≡ false) (pairs ds)
 apart_from b [] h = tt
-apart_from b (d ∷ ds) h =
-    let parts = or_parts (same_pair (pair d) (pair b)) _ h in
-    by (occurs (pair d) ds) parts.0 (apart_from b ds parts.1)
-  where
-    by : (t : Bool) → same_pair (pair d) (pair b) ≡ false → All (λ q. same_pair q (pair b) ≡ false) (pairs ds) → All (λ q. same_pair q (pair b) ≡ false) (cond t (pairs ds) (pair d ∷ pairs ds))
-    by true x xs = xs
-    by false x xs = (x, xs)
+apart_from b (d ∷ ds) h = grind (arith, nat_tests, apart_from b ds)
 
 worst_absent : (q : Pair) (ds : List Defect) → occurs q ds ≡ false → worst ds q ≡ Minor
 worst_absent q [] h = refl
-worst_absent q (d ∷ ds) h =
-    let parts = or_parts (same_pair (pair d) q) _ h in
-    let other : same_pair q (pair d) ≡ false = pair_flip (pair d) q parts.0 in
-    cond-false (same_pair q (pair d)) _ _ other ∙ worst_absent q ds parts.1
+worst_absent q (d ∷ ds) h = grind (arith, nat_tests, worst_absent q ds)
 
 pub tally_fresh : (b : Defect) (ds : List Defect) → occurs (pair b) ds ≡ false → tally_of (b ∷ ds) ≡ counted (tally_of ds) b.class
 tally_fresh b ds h =

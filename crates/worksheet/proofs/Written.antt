@@ -1,9 +1,10 @@
 -- A line says a defect exactly where it is that defect's line.
-use Rattle.std.proofs.Common.{◌≡◌, ℕ, zero, suc, ◌+◌, ◌-◌, ◌^◌, ◌<◌, ◌≤◌, Bool, true, false, cond, ◌&&◌, eqb, ltb, leb, List, [], ◌∷◌, ◌++◌, length, get_or, Some, None, decimal, Option, sym, refl, ap, ◌∙◌, subst, arith}
+use Rattle.std.proofs.Common.{◌≡◌, ℕ, ◌+◌, ◌-◌, ◌^◌, ◌<◌, ◌≤◌, Bool, true, false, cond, ◌&&◌, eqb, ltb, leb, List, [], ◌∷◌, ◌++◌, length, get_or, Some, None, decimal, Option, sym, refl, ap, ◌∙◌, subst, arith}
 use native.Mathlib.Nat.{pow-le-pow_right}
 use Rattle.std.proofs.lemmas.Fmt.{decimal_digit, decimal-digits_value, digits_decimal, digits_value-decimal, length-decimal-le, first_decimal, decimal_nonempty}
 use Rattle.std.proofs.lemmas.Str.Parse.{not_in_digits, digits_value_short}
 use Rattle.std.proofs.lemmas.Bool.{and_from, and_parts, eqb-true, ltb-true, leb-true, lt-ltb, le-leb, cond-true}
+use Rattle.std.proofs.lemmas.Bool.Decides.{nat_tests}
 use Rattle.std.specs.Option.{option_map}
 use Rattle.std.specs.Str.Parse.{digits_value}
 use Rattle.std.specs.Str.{all_ascii_digits}
@@ -25,8 +26,7 @@ led_some [] h = absurd (omega arith)
 led_some (d ∷ ds) h = omega arith
 
 not_zero : (ds : List ℕ) (u : ℕ) → ds ≡ decimal u → 48 < get_or ds 0 0 → 1 ≤ u
-not_zero ds zero e h = absurd (omega (arith, ap (λ l. get_or l 0 0) (e ∙ decimal_digit 0 (omega arith))))
-not_zero ds (suc u) e h = omega arith
+not_zero ds u e h = grind (arith, decimal_digit)
 
 -- a unit's digits are what `decimal` writes of it, and the other way
 unit_back : (ds : List ℕ) (u : ℕ) → unit_of ds ≡ Some u → (1 ≤ u) × (u ≤ 9999) × (ds ≡ decimal u)
@@ -65,7 +65,7 @@ unit_small ds u short e =
 
 -- a keyed defect's cause is one digit
 pub written_keyed : (d : Defect) → Keyed d → decimal d.unit ++ 9 ∷ (48 + d.cause) ∷ 9 ∷ class_letter d.class ∷ 10 ∷ [] ≡ written d
-written_keyed d k = ap (λ c. decimal d.unit ++ (9 ∷ (c ++ (9 ∷ class_letter d.class ∷ 10 ∷ [])))) (sym (decimal_digit d.cause (omega (arith, k.cause_most))))
+written_keyed d k = grind (arith, decimal_digit)
 
 -- what follows the unit, likewise
 abbrev Tail : List ℕ → ℕ × DefectClass → Type 0
@@ -99,10 +99,7 @@ class_forth : (k : DefectClass) → class_of (class_letter k) ≡ Some k
 class_forth k = grind arith
 
 tail_forth : (n : ℕ) (k : DefectClass) → 1 ≤ n → n ≤ 9 → tail_of ((48 + n) ∷ 9 ∷ class_letter k ∷ 10 ∷ []) ≡ Some (n, k)
-tail_forth n k low high =
-    let form : tail_form (48 + n) 9 10 ≡ true = and_from _ _ (and_from _ _ (lt-ltb 48 (48 + n) (omega arith)) (le-leb (48 + n) 57 (omega arith))) refl in
-    let digit : (48 + n) - 48 ≡ n = omega arith in
-    cond-true _ _ _ form ∙ ap (option_map (λ k. ((48 + n) - 48, k))) (class_forth k) ∙ ap (λ m. Some (m, k)) digit
+tail_forth n k low high = grind (arith, nat_tests, class_forth)
 
 pub piece_back : (p : Piece) (d : Defect) → defect_of p ≡ Some d → Keyed d × (text_of p ≡ written d)
 piece_back (bare n text) d e = cc
