@@ -1,3 +1,4 @@
-pub mod Numbering
-pub mod Keeping
+pub mod Adding
 pub mod Binding
+pub mod Numbering
+pub mod Refusing

@@ -19,11 +19,6 @@ numbered_at i [] d h = absurd (omega arith)
 numbered_at zero (e ∷ es) d h = refl
 numbered_at (suc i) (e ∷ es) d h = numbered_at i es d (omega arith)
 
-pub numbered_place : (n : ℕ) (es : List Entry) (d : Entry) → (n ≡ 0 → ⊥) → n ≤ length es → Some (get_or es (n - 1) d) ≡ numbered n es
-numbered_place n es d some within =
-    let back : suc (n - 1) ≡ n = omega arith in
-    numbered_at (n - 1) es d (omega arith) ∙ ap (λ k. numbered k es) back
-
 pub numbered_take : (n m : ℕ) (es : List Entry) → n ≤ m → numbered n (take m es) ≡ numbered n es
 numbered_take zero m es h = sym (numbered_zero (take m es)) ∙ numbered_zero es
 numbered_take (suc n) zero es h = absurd (omega arith)

@@ -1,6 +1,5 @@
--- What the table book and the text book hold, by the memory that they stand on and their count.
-use Rattle.std.specs.Prelude.{ℕ, zero, suc, ◌+◌, ◌-◌, ◌*◌, ◌/◌, min, List, [], ◌∷◌, ◌++◌, map, length, take, drop, Some, None, Option, slice_set}
-use Rattle.inspection.specs.declared.refusal.Refusal.{Refusal}
+-- What a counted book holds, by what stands in the places of its memory and its count.
+use Rattle.std.specs.Prelude.{ℕ, zero, suc, ◌+◌, ◌-◌, ◌*◌, ◌/◌, min, List, [], ◌∷◌, ◌++◌, map, length, take, drop, slice_set}
 use Rattle.entries.specs.declared.entry.Entry.{Entry}
 use Rattle.entries.specs.Entries.{or_spoiled}
 use Rattle.entries.specs.Lines.{line_of, entry_in}
@@ -13,12 +12,13 @@ usable places = min places 9999999
 abbrev pub cut : ℕ → ℕ → ℕ
 cut count places = min count (usable places)
 
+-- places that can be used and are not
 abbrev pub spare : ℕ → ℕ → ℕ
-spare count places = usable places - cut count places
+spare count places = usable places - count
 
 -- records that are no writable entry read as spoiled
-abbrev pub table_entries : ℕ → List Entry → List Entry
-table_entries count records = map or_spoiled (take (cut count (length records)) records)
+abbrev pub records_read : List Entry → List Entry
+records_read records = map or_spoiled records
 
 -- whole places of 37 bytes
 abbrev pub lines_in : List ℕ → ℕ
@@ -29,19 +29,12 @@ abbrev pub stored : ℕ → List ℕ → List Entry
 stored zero bs = []
 stored (suc n) bs = entry_in (take 37 bs) ∷ stored n (drop 37 bs)
 
-abbrev pub text_entries : ℕ → List ℕ → List Entry
-text_entries count bytes = stored (cut count (lines_in bytes)) bytes
+abbrev pub lines_read : List ℕ → List Entry
+lines_read bytes = stored (lines_in bytes) bytes
 
--- an added entry stands in the first unused place, and every other place is as it was
-abbrev pub record_after : Option Refusal → ℕ → Entry → List Entry → List Entry
-record_after None i e records = slice_set records i e
-record_after (Some r) i e records = records
+-- an entry that is written stands in its place, and every other record and byte is as it was
+abbrev pub record_after : ℕ → Entry → List Entry → List Entry
+record_after i e records = slice_set records i e
 
-abbrev pub line_after : Option Refusal → ℕ → Entry → List ℕ → List ℕ
-line_after None i e bytes = take (i * 37) bytes ++ (line_of e ++ drop (i * 37 + 37) bytes)
-line_after (Some r) i e bytes = bytes
-
--- the count after adding, from the count before and the places used
-abbrev pub count_after : Option Refusal → ℕ → ℕ → ℕ
-count_after None count used = used + 1
-count_after (Some r) count used = count
+abbrev pub line_after : ℕ → Entry → List ℕ → List ℕ
+line_after i e bytes = take (i * 37) bytes ++ (line_of e ++ drop (i * 37 + 37) bytes)

@@ -2,6 +2,8 @@
 #![tactic(auto)]
 
 pub mod book;
+pub mod counted;
+pub mod places;
 pub mod table;
 pub mod text;
 pub mod volumes;

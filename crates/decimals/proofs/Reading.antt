@@ -1,54 +1,46 @@
 -- A number, digit by digit.
-use Rattle.std.proofs.Common.{◌≡◌, ℕ, ◌+◌, ◌-◌, ◌*◌, ◌<◌, ◌≤◌, true, false, List, length, get_or, take, Some, None, sym, ap, ◌∙◌, subst, ⊎_elim, arith}
+use Rattle.std.proofs.Common.{◌≡◌, ℕ, ◌+◌, ◌-◌, ◌*◌, ◌^◌, ◌<◌, ◌≤◌, min, Bool, true, false, cond, List, length, get_or, take, Some, None, sym, refl, ap, ◌∙◌, subst, arith}
 use Rattle.std.proofs.lemmas.Int.Digits.{digits_value_more, digits_more}
-use Rattle.std.proofs.lemmas.List.{take_all, length-take}
+use Rattle.std.proofs.lemmas.List.{take_all}
 use Rattle.std.proofs.lemmas.Str.Parse.{IsNumeralModel, numerals_by_value, tells_all_ascii_digits, digit_at, digits_value_short}
-use Rattle.std.proofs.lemmas.Bool.{and_from, and_left, and_right, le-ltb, lt-ltb, le-leb, lt-leb, cases_Bool, cond-false, cond-true}
 use Rattle.std.proofs.lemmas.Str.{digit_value_digit}
+use Rattle.std.proofs.lemmas.Bool.{le-leb, lt-ltb, cond-true}
+use Rattle.std.proofs.lemmas.Bool.Decides.{nat_tests}
+use Rattle.std.specs.Option.{option_map}
+use Rattle.std.specs.Char.{digit_value}
 use Rattle.std.specs.Str.Parse.{digits_value, AllDigits}
-use Rattle.std.specs.Int.{IsInRange}
 use Rattle.std.specs.Str.{all_ascii_digits}
-use Rattle.decimals.specs.Digits.{digits_form, numeral}
+use Rattle.decimals.specs.Digits.{numeral, number, led, all_read, clipped}
 
 pub own : IsNumeralModel (λ ds. all_ascii_digits ds ≡ true) (digits_value 10)
 own = numerals_by_value _ tells_all_ascii_digits
 
--- n is the number that the first i bytes write
-pub record Read (ds : List ℕ) (i n : ℕ) : Type 0 where
+-- n is the number that the first i bytes write, as far as it fits
+pub record SoFar (ds : List ℕ) (i n : ℕ) : Type 0 where
   pub digits : AllDigits 10 (take i ds)
-  pub number : n ≡ digits_value 10 (take i ds)
+  pub reads : n ≡ clipped (digits_value 10 (take i ds))
 
-pub read_small : (ds : List ℕ) (i n : ℕ) → Read ds i n → i < length ds → length ds ≤ 9 → n < 100000000
-read_small ds i n r lt few =
-    let short : length (take i ds) ≤ 8 = simp length-take (omega arith) in
-    omega (arith, digits_value_short own (take i ds) 8 (own.from _ r.digits) short, r.number)
+-- one digit more; what does not fit stays so
+clip_more : (v d n m r : ℕ) → n ≡ clipped v → m ≡ min (n * 10) (2 ^ 32 - 1) → r ≡ min (m + d) (2 ^ 32 - 1) → r ≡ clipped (v * 10 + d)
+clip_more v d n m r e f g = omega (arith, e, f, g)
 
-pub read_more : (ds : List ℕ) (i n : ℕ) → i < length ds → 48 ≤ get_or ds i 0 → get_or ds i 0 ≤ 57 → Read ds i n → Read ds (i + 1) (n * 10 + (get_or ds i 0 - 48))
-read_more ds i n lt low high r =
-    let is = digit_value_digit (get_or ds i 0) (low, high) in
+pub so_far_more : (ds : List ℕ) (i d n m r : ℕ) → i < length ds → digit_value (get_or ds i 0) < 10 → d ≡ digit_value (get_or ds i 0) → SoFar ds i n → m ≡ min (n * 10) (2 ^ 32 - 1) → r ≡ min (m + d) (2 ^ 32 - 1) → SoFar ds (i + 1) r
+so_far_more ds i d n m r lt digit is s e f =
     record {
-      digits = digits_more 10 ds i lt r.digits (omega arith);
-      number = omega (arith, r.number, digits_value_more 10 ds i lt);
+      digits = digits_more 10 ds i lt s.digits digit;
+      reads = clip_more (digits_value 10 (take i ds)) d n m r s.reads e f ∙ ap clipped (omega (arith, is, digits_value_more 10 ds i lt));
     }
 
--- what is no number, and why
-not_number : (ds : List ℕ) → digits_form ds ≡ false → None ≡ numeral ds
-unfolding numeral
-not_number ds e = sym (cond-false (digits_form ds) (Some (digits_value 10 ds)) None e)
+-- another byte than a digit stands among them
+pub none_read : (ds : List ℕ) (i : ℕ) → i < length ds → (digit_value (get_or ds i 0) < 10 → ⊥) → None ≡ all_read ds
+none_read ds i lt other = grind (arith, digit_at, own.to ds, digit_value_digit)
 
-pub not_some : (ds : List ℕ) → length ds ≡ 0 → None ≡ numeral ds
-not_some ds h = not_number ds (and_left _ _ (and_left _ _ (le-ltb 0 (length ds) (omega arith))))
-
-pub not_few : (ds : List ℕ) → 9 < length ds → None ≡ numeral ds
-not_few ds h = not_number ds (and_left _ _ (and_right _ _ (lt-leb (length ds) 9 h)))
-
-pub not_digit : (ds : List ℕ) (i : ℕ) → i < length ds → (IsInRange 48 57 (get_or ds i 0) → ⊥) → None ≡ numeral ds
-not_digit ds i lt out =
-    not_number ds (and_right _ _ (⊎_elim (λ e. absurd (out (digit_at ds i (own.to ds e) lt))) (λ e. e) (cases_Bool (all_ascii_digits ds))))
-
-pub number_read : (ds : List ℕ) (i n : ℕ) → Read ds i n → length ds ≤ i → 0 < length ds → length ds ≤ 9 → Some n ≡ numeral ds
-unfolding numeral
-number_read ds i n r done some few =
+pub whole_read : (ds : List ℕ) (i n : ℕ) → SoFar ds i n → length ds ≤ i → Some n ≡ all_read ds
+whole_read ds i n r done =
     let all = take_all i ds done in
-    let form : digits_form ds ≡ true = and_from _ _ (and_from _ _ (lt-ltb 0 (length ds) some) (le-leb (length ds) 9 few)) (own.from ds (subst (AllDigits 10) all r.digits)) in
-    ap Some (r.number ∙ ap (digits_value 10) all) ∙ sym (cond-true (digits_form ds) (Some (digits_value 10 ds)) None form)
+    let form : all_ascii_digits ds ≡ true = own.from ds (subst (AllDigits 10) all r.digits) in
+    ap Some (r.reads ∙ ap (λ l. clipped (digits_value 10 l)) all) ∙ sym (cond-true (all_ascii_digits ds) (Some (clipped (digits_value 10 ds))) None form)
+
+-- nine digits fit
+pub nine_fit : (ds : List ℕ) → all_ascii_digits ds ≡ true → length ds ≤ 9 → clipped (digits_value 10 ds) ≡ digits_value 10 ds
+nine_fit ds form few = omega (arith, digits_value_short own ds 9 form few)

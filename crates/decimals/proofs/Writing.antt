@@ -1,8 +1,8 @@
 -- Digits as they are written.
-use Rattle.std.proofs.Common.{◌≡◌, ℕ, zero, suc, ◌+◌, ◌-◌, ◌*◌, ◌/◌, ◌%◌, ◌^◌, ◌<◌, ◌≤◌, Bool, true, false, cond, ◌&&◌, ltb, leb, List, [], ◌∷◌, ◌++◌, length, get_or, take, drop, set, Some, None, sym, refl, ap, ◌∙◌, subst, append_assoc, mod-lt, pow-suc, add-one, arith}
+use Rattle.std.proofs.Common.{◌≡◌, ℕ, zero, suc, ◌+◌, ◌*◌, ◌/◌, ◌%◌, ◌^◌, ◌<◌, ◌≤◌, Bool, true, false, cond, ◌&&◌, ltb, leb, List, [], ◌∷◌, ◌++◌, length, get_or, take, Some, None, sym, refl, ap, ◌∙◌, subst, mod-lt, pow-suc, add-one, arith}
 use native.Mathlib.Nat.{div-add-mod}
 use Rattle.std.proofs.lemmas.Int.Digits.{digits_value_push, digits_value_more, digits_value-lt, digits_push}
-use Rattle.std.proofs.lemmas.List.{append-nil, take_all, take_more, length-append, drop_all, drop-set}
+use Rattle.std.proofs.lemmas.List.{take_all, take_more, length-append}
 use Rattle.std.proofs.lemmas.Str.Parse.{digit_at}
 use Rattle.std.proofs.lemmas.Bool.{and_from, and_parts, lt-ltb, le-leb, cond-true}
 use Rattle.std.proofs.lemmas.Str.{digit_value_digit}
@@ -15,21 +15,6 @@ use Rattle.decimals.proofs.Reading.{own}
 pub length_padded : (w n : ℕ) → length (padded w n) ≡ w
 length_padded zero n = refl
 length_padded (suc w) n = length-append (padded w (n / 10)) _ ∙ omega (arith, length_padded w (n / 10))
-
--- one digit more, from the last place on
-write_more : (xs : List ℕ) (i n : ℕ) → i < length xs → padded i (n / 10) ++ drop i (set xs i (48 + n % 10)) ≡ padded (i + 1) n ++ drop (i + 1) xs
-write_more xs i n lt =
-    ap (λ r. padded i (n / 10) ++ r) (drop-set xs i (48 + n % 10) lt)
-    ∙ sym (append_assoc (padded i (n / 10)) ((48 + n % 10) ∷ []) (drop (i + 1) xs))
-    ∙ ap (λ w. padded w n ++ drop (i + 1) xs) (sym (add-one i))
-
-pub write_down : (xs : List ℕ) (k n : ℕ) → 0 < k → k ≤ length xs → padded (k - 1) (n / 10) ++ drop (k - 1) (set xs (k - 1) (48 + n % 10)) ≡ padded k n ++ drop k xs
-write_down xs k n some within =
-    let back : k - 1 + 1 ≡ k = omega arith in
-    write_more xs (k - 1) n (omega arith) ∙ ap (λ j. padded j n ++ drop j xs) back
-
-pub write_none : (xs : List ℕ) (n : ℕ) → padded (length xs) n ++ drop (length xs) xs ≡ padded (length xs) n
-write_none xs n = ap (λ r. padded (length xs) n ++ r) (drop_all (length xs) xs (omega arith)) ∙ append-nil _
 
 digit_of : (d : ℕ) → d < 10 → digit_value (48 + d) ≡ d
 digit_of d lt = omega (arith, digit_value_digit (48 + d) (omega arith, omega arith))
@@ -77,7 +62,7 @@ unfolding numeral
 read_back ds n e = by (digits_form ds) refl e
   where
     by : (t : Bool) → digits_form ds ≡ t → cond t (Some (digits_value 10 ds)) None ≡ Some n → (n < 10 ^ length ds) × (ds ≡ padded (length ds) n)
-    by false t e = let z : ◌≡◌ {A = ℕ} 0 1 = cc in absurd (omega arith)
+    by false t e = cc
     by true t e =
         let is : digits_value 10 ds ≡ n = cc in
         let digits = own.to ds (and_parts (ltb 0 (length ds) && leb (length ds) 9) (all_ascii_digits ds) t).1 in

@@ -27,6 +27,10 @@ number ds = cond (plain_form ds) (Some (digits_value 10 ds)) None
 abbrev pub clipped : ℕ → ℕ
 clipped n = min n 4294967295
 
+-- what digits alone write, so far as it fits
+abbrev pub all_read : List ℕ → Option ℕ
+all_read ds = cond (all_ascii_digits ds) (Some (clipped (digits_value 10 ds))) None
+
 -- the last w digits of n, zeros before it where it has fewer
 abbrev pub padded : ℕ → ℕ → List ℕ
 padded zero n = []

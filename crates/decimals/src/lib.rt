@@ -3,23 +3,30 @@
 
 ghost use Rattle.std.specs.Prelude.{◌≡◌, length};
 ghost use Rattle.std.specs.Option.{option_map};
-ghost use Rattle.decimals.specs.Digits.{numeral, number as plain_number, clipped, led, padded, WrittenBack, ReadBack};
+ghost use Rattle.decimals.specs.Digits.{numeral, number as plain_number, clipped, all_read, led, padded, WrittenBack, ReadBack};
+
+// The number that the bytes write, where each is a digit; one that does not fit is read as the largest that does.
+fn read_all(digits: &[u8]) -> Option<u32>
+    ensures { result ≡ all_read digits.now }
+{
+    let mut number = 0u32;
+    for digit in digits {
+        number = number
+            .saturating_mul(10)
+            .saturating_add(char::from(*digit).to_digit(10)?);
+    }
+    Some(number)
+}
 
 // The number that one to nine digits write; no other bytes write one.
+#[tactic(auto, using(crate::proofs::Reading::nine_fit), unfolding(crate::specs::Digits::numeral))]
 pub fn read_digits(digits: &[u8]) -> Option<u32>
     ensures { result ≡ numeral digits.now }
 {
     if digits.is_empty() || digits.len() > 9 {
         return None;
     }
-    let mut number = 0u32;
-    for digit in digits {
-        if *digit < b'0' || *digit > b'9' {
-            return None;
-        }
-        number = number * 10 + (*digit - b'0') as u32;
-    }
-    Some(number)
+    read_all(digits)
 }
 
 // There is a first digit, and it is no zero with others after it.
@@ -33,22 +40,14 @@ fn is_led(digits: &[u8]) -> bool
 }
 
 // The number that digits write without leading zero, however many they are; one that does not fit is read as the largest that does.
+#[tactic(auto, unfolding(crate::specs::Digits::number))]
 pub fn read_number(digits: &[u8]) -> Option<u32>
     ensures { result ≡ option_map clipped (plain_number digits.now) }
 {
     if !is_led(digits) {
         return None;
     }
-    let mut value = 0u32;
-    for digit in digits {
-        if *digit < b'0' || *digit > b'9' {
-            return None;
-        }
-        value = value
-            .saturating_mul(10)
-            .saturating_add((*digit - b'0') as u32);
-    }
-    Some(value)
+    read_all(digits)
 }
 
 // Fills the places with the last digits of the number.

@@ -1,7 +1,8 @@
 -- Lines read back, and nothing else reads as an entry.
-use Rattle.std.proofs.Common.{◌≡◌, ℕ, ◌+◌, ◌^◌, ◌<◌, ◌≤◌, Bool, true, false, cond, ◌&&◌, eqb, ltb, leb, List, [], ◌∷◌, ◌++◌, length, get_or, take, drop, Some, None, Option, sym, refl, ap, ◌∙◌, subst, append_assoc, arith}
+use Rattle.std.proofs.Common.{◌≡◌, ℕ, ◌+◌, ◌^◌, ◌<◌, ◌≤◌, Bool, true, false, cond, List, [], ◌∷◌, ◌++◌, length, get_or, take, drop, Some, None, Option, sym, refl, ap, ◌∙◌, subst, append_assoc, arith}
 use Rattle.std.proofs.lemmas.List.{append-nil, length-append, length-take-le, take_at, drop_at, get_or_at, take-append-drop, drop_more, drop-drop}
-use Rattle.std.proofs.lemmas.Bool.{and_from, and_parts, lt-ltb, ltb-true, eq-eqb, eqb-true, leb-true, cond-true, both_ways}
+use Rattle.std.proofs.lemmas.Bool.Decides.{nat_tests}
+use Rattle.std.proofs.lemmas.Bool.{cond-true}
 use Rattle.decimals.specs.Digits.{numeral, padded}
 use Rattle.decimals.proofs.Writing.{length_padded, written_back, read_back}
 use Rattle.inspection.specs.Letters.{kind_letter, kind_of, status_letter, status_of, verdict_letter, verdict_of}
@@ -15,12 +16,9 @@ use Rattle.inspection.specs.declared.verdict.Verdict.TheVariants.{Accepted, Reje
 use Rattle.inspection.specs.declared.tally.Tally.{Tally}
 use Rattle.entries.specs.declared.entry.Entry.{Entry}
 use Rattle.entries.specs.declared.line.Numbers.{Numbers}
-use Rattle.entries.specs.Entries.{no_numbers, fits_fields, writable_as, writable, spoiled}
+use Rattle.entries.specs.Entries.{writable_as, writable, spoiled}
 use Rattle.entries.specs.Lines.{number_field, numbers_text, line_of, Read, then, closed_by, with_rest, number_at, ended, numbers_in, joint, tabs, fields_in, read_as, Long, ReadsBack, NoOther, ElseSpoiled}
 use Rattle.entries.proofs.Chains.{chained}
-
-never : {X : Type 0} {P : Type 0} {x : X} → None ≡ Some x → P
-never e = let z : ◌≡◌ {A = ℕ} 0 1 = cc in absurd (omega arith)
 
 -- a number in its field reads back
 number_forth : (w n end : ℕ) (rest : List ℕ) → 1 ≤ w → w ≤ 9 → n < 10 ^ w → Some (n, rest) ≡ number_at w end (number_field w n end ++ rest)
@@ -29,7 +27,7 @@ number_forth w n end rest some few lt =
     let long = length_padded w n in
     let bs = ds ++ end ∷ rest in
     let whole : number_field w n end ++ rest ≡ bs = append_assoc ds (end ∷ []) rest in
-    let closed : closed_by w end bs ≡ true = and_from _ _ (lt-ltb w (length bs) (omega (arith, length-append ds (end ∷ rest)))) (eq-eqb (get_or bs w 0) end (get_or_at ds end rest 0 w long)) in
+    let closed : closed_by w end bs ≡ true = grind (arith, nat_tests, length-append ds (end ∷ rest), get_or_at ds end rest 0 w long, long) in
     let front : numeral (take w bs) ≡ Some n = ap numeral (take_at ds (end ∷ rest) w long) ∙ written_back w n some few lt in
     let back : drop (w + 1) bs ≡ rest = sym (drop-drop 1 w bs) ∙ ap (drop 1) (drop_at ds (end ∷ rest) w long) in
     sym (ap (number_at w end) whole ∙ cond-true _ _ _ closed ∙ ap (with_rest (drop (w + 1) bs)) front ∙ ap (λ r. Some (n, r)) back)
@@ -39,13 +37,12 @@ number_back : (w end : ℕ) (bs : List ℕ) (p : ℕ × List ℕ) → number_at 
 number_back w end bs p e = by (closed_by w end bs) refl (numeral (take w bs)) refl e
   where
     by : (t : Bool) → closed_by w end bs ≡ t → (o : Option ℕ) → numeral (take w bs) ≡ o → cond t (with_rest (drop (w + 1) bs) o) None ≡ Some p → bs ≡ number_field w p.0 end ++ p.1
-    by false c o r e = never e
-    by true c None r e = never e
+    by false c o r e = cc
+    by true c None r e = cc
     by true c (Some n) r e =
         let same : ◌≡◌ {A = ℕ × List ℕ} (n, drop (w + 1) bs) p = cc in
-        let parts = and_parts (ltb w (length bs)) _ c in
-        let lt = ltb-true w (length bs) parts.0 in
-        let at = eqb-true (get_or bs w 0) end parts.1 in
+        let lt : w < length bs = grind (arith, nat_tests, c) in
+        let at : get_or bs w 0 ≡ end = grind (arith, nat_tests, c) in
         let long = length-take-le w bs (omega arith) in
         let digits : take w bs ≡ padded w n = (read_back (take w bs) n r).1 ∙ ap (λ k. padded k n) long in
         subst (λ (q : ℕ × List ℕ). bs ≡ number_field w q.0 end ++ q.1) same
@@ -55,12 +52,12 @@ number_back w end bs p e = by (closed_by w end bs) refl (numeral (take w bs)) re
         ∙ sym (append_assoc (padded w n) (end ∷ []) (drop (w + 1) bs)))
 
 then_some : {X Y : Type 0} (o : Read X) (f : X → List ℕ → Option Y) (y : Y) → then o f ≡ Some y → (p : X × List ℕ) × (o ≡ Some p) × (f p.0 p.1 ≡ Some y)
-then_some None f y e = never e
+then_some None f y e = cc
 then_some (Some p) f y e = (p, refl, e)
 
 ended_some : {X : Type 0} (x y : X) (bs : List ℕ) → ended x bs ≡ Some y → (bs ≡ []) × (x ≡ y)
 ended_some x y [] e = (refl, cc)
-ended_some x y (b ∷ bs) e = never e
+ended_some x y (b ∷ bs) e = cc
 
 numbers_back : (bs : List ℕ) (n : Numbers) → numbers_in bs ≡ Some n → bs ≡ numbers_text n.lot_size n.units n.tally
 numbers_back bs n e =
@@ -96,27 +93,13 @@ numbers_forth lot units t a b c d e =
     last)
 
 kind_forth : (k : Kind) → kind_of (kind_letter k) ≡ Some k
-kind_forth PeriodOpened = refl
-kind_forth Portion = refl
-kind_forth PeriodEnded = refl
-kind_forth Lot = refl
-kind_forth SecondSample = refl
-kind_forth Relief = refl
-kind_forth IrregularNotice = refl
-kind_forth Spoiled = refl
+kind_forth k = grind arith
 
 status_forth : (s : Status) → status_of (status_letter s) ≡ Some s
-status_forth Normal = refl
-status_forth Tightened = refl
-status_forth Reduced = refl
+status_forth s = grind arith
 
 verdict_forth : (v : Verdict) → verdict_of (verdict_letter v) ≡ Some v
-verdict_forth Accepted = refl
-verdict_forth Rejected = refl
-verdict_forth Awaited = refl
-verdict_forth Full = refl
-verdict_forth Brief = refl
-verdict_forth Undecided = refl
+verdict_forth v = grind arith
 
 pub record Fits (e : Entry) : Type 0 where
   pub lot : e.lot_size ≤ 9999999
@@ -125,70 +108,36 @@ pub record Fits (e : Entry) : Type 0 where
   pub major : e.tally.major ≤ 99999
   pub minor : e.tally.minor ≤ 99999
 
-fields_fit : (e : Entry) → fits_fields e ≡ true → Fits e
-fields_fit e h =
-    let d = and_parts _ (leb e.tally.minor 99999) h in
-    let c = and_parts _ (leb e.tally.major 99999) d.0 in
-    let b = and_parts _ (leb e.tally.critical 99999) c.0 in
-    let a = and_parts (leb e.lot_size 9999999) (leb e.units 9999) b.0 in
-    record { lot = leb-true _ _ a.0; few = leb-true _ _ a.1; critical = leb-true _ _ b.1; major = leb-true _ _ c.1; minor = leb-true _ _ d.1 }
-
-nothing_fits : (e : Entry) → no_numbers e ≡ true → Fits e
-nothing_fits e h =
-    let d = and_parts _ (eqb e.tally.minor 0) h in
-    let c = and_parts _ (eqb e.tally.major 0) d.0 in
-    let b = and_parts _ (eqb e.tally.critical 0) c.0 in
-    let a = and_parts (eqb e.lot_size 0) (eqb e.units 0) b.0 in
-    let lot = eqb-true e.lot_size 0 a.0 in
-    let units = eqb-true e.units 0 a.1 in
-    let critical = eqb-true e.tally.critical 0 b.1 in
-    let major = eqb-true e.tally.major 0 c.1 in
-    let minor = eqb-true e.tally.minor 0 d.1 in
-    record { lot = omega arith; few = omega arith; critical = omega arith; major = omega arith; minor = omega arith }
-
 writable_fits : (k : Kind) (e : Entry) → writable_as k e ≡ true → Fits e
-writable_fits PeriodOpened e h = nothing_fits e (and_parts (no_numbers e) _ h).0
-writable_fits Portion e h = fields_fit e (and_parts (eqb e.lot_size 0) _ h).1
-writable_fits PeriodEnded e h = nothing_fits e h
-writable_fits Lot e h = fields_fit e h
-writable_fits SecondSample e h = fields_fit e h
-writable_fits Relief e h = nothing_fits e (and_parts (no_numbers e) _ h).0
-writable_fits IrregularNotice e h = nothing_fits e (and_parts (no_numbers e) _ h).0
-writable_fits Spoiled e h = absurd (both_ways true (sym h) refl)
+writable_fits k e h = record { lot = grind (arith, nat_tests); few = grind (arith, nat_tests); critical = grind (arith, nat_tests); major = grind (arith, nat_tests); minor = grind (arith, nat_tests) }
 
 fields_forth : (e : Entry) → Fits e → fields_in (line_of e) ≡ Some e
-fields_forth e f =
-    ap (λ k. joint k (status_of (status_letter e.status)) (verdict_of (verdict_letter e.verdict)) (numbers_in (numbers_text e.lot_size e.units e.tally))) (kind_forth e.kind)
-    ∙ ap (λ s. joint (Some e.kind) s (verdict_of (verdict_letter e.verdict)) (numbers_in (numbers_text e.lot_size e.units e.tally))) (status_forth e.status)
-    ∙ ap (λ v. joint (Some e.kind) (Some e.status) v (numbers_in (numbers_text e.lot_size e.units e.tally))) (verdict_forth e.verdict)
-    ∙ ap (joint (Some e.kind) (Some e.status) (Some e.verdict)) (numbers_forth e.lot_size e.units e.tally f.lot f.few f.critical f.major f.minor)
+fields_forth e f = simp (kind_forth, status_forth, verdict_forth, numbers_forth e.lot_size e.units e.tally f.lot f.few f.critical f.major f.minor)
 
 pub reads_back : ReadsBack
 reads_back e h = ap read_as (fields_forth e (writable_fits e.kind e h)) ∙ cond-true (writable e) e spoiled h
 
 -- bytes whose fields say an entry are its line
 fields_back : (bs : List ℕ) (e : Entry) → fields_in bs ≡ Some e → bs ≡ line_of e
-fields_back [] e h = never h
-fields_back (k ∷ []) e h = never h
-fields_back (k ∷ a ∷ []) e h = never h
-fields_back (k ∷ a ∷ s ∷ []) e h = never h
-fields_back (k ∷ a ∷ s ∷ b ∷ []) e h = never h
-fields_back (k ∷ a ∷ s ∷ b ∷ v ∷ []) e h = never h
+fields_back [] e h = cc
+fields_back (k ∷ []) e h = cc
+fields_back (k ∷ a ∷ []) e h = cc
+fields_back (k ∷ a ∷ s ∷ []) e h = cc
+fields_back (k ∷ a ∷ s ∷ b ∷ []) e h = cc
+fields_back (k ∷ a ∷ s ∷ b ∷ v ∷ []) e h = cc
 fields_back (k ∷ a ∷ s ∷ b ∷ v ∷ c ∷ bs) e h = by (tabs a b c) refl (kind_of k) refl (status_of s) refl (verdict_of v) refl (numbers_in bs) refl h
   where
     by : (t : Bool) → tabs a b c ≡ t → (o : Option Kind) → kind_of k ≡ o → (p : Option Status) → status_of s ≡ p → (q : Option Verdict) → verdict_of v ≡ q → (n : Option Numbers) → numbers_in bs ≡ n → cond t (joint o p q n) None ≡ Some e → k ∷ a ∷ s ∷ b ∷ v ∷ c ∷ bs ≡ line_of e
-    by false t o ko p sp q vq n nn h = never h
-    by true t None ko p sp q vq n nn h = never h
-    by true t (Some x) ko None sp q vq n nn h = never h
-    by true t (Some x) ko (Some y) sp None vq n nn h = never h
-    by true t (Some x) ko (Some y) sp (Some z) vq None nn h = never h
+    by false t o ko p sp q vq n nn h = cc
+    by true t None ko p sp q vq n nn h = cc
+    by true t (Some x) ko None sp q vq n nn h = cc
+    by true t (Some x) ko (Some y) sp None vq n nn h = cc
+    by true t (Some x) ko (Some y) sp (Some z) vq None nn h = cc
     by true t (Some x) ko (Some y) sp (Some z) vq (Some m) nn h =
         let same : ◌≡◌ {A = Entry} (record { kind = x; status = y; verdict = z; lot_size = m.lot_size; units = m.units; tally = m.tally }) e = cc in
-        let marks = and_parts (eqb a 9 && eqb b 9) _ t in
-        let pair = and_parts (eqb a 9) _ marks.0 in
-        let first = eqb-true a 9 pair.0 in
-        let second = eqb-true b 9 pair.1 in
-        let third = eqb-true c 9 marks.1 in
+        let first : a ≡ 9 = grind (arith, nat_tests, t) in
+        let second : b ≡ 9 = grind (arith, nat_tests, t) in
+        let third : c ≡ 9 = grind (arith, nat_tests, t) in
         let kind = sym (lettered_back kind_letter (PeriodOpened ∷ Portion ∷ PeriodEnded ∷ Lot ∷ SecondSample ∷ Relief ∷ IrregularNotice ∷ Spoiled ∷ []) k x ko) in
         let status = sym (lettered_back status_letter (Normal ∷ Tightened ∷ Reduced ∷ []) s y sp) in
         let verdict = sym (lettered_back verdict_letter (Accepted ∷ Rejected ∷ Awaited ∷ Full ∷ Brief ∷ Undecided ∷ []) v z vq) in
@@ -200,12 +149,12 @@ pub no_other : NoOther
 no_other bs h = by (fields_in bs) refl h
   where
     by : (o : Option Entry) → fields_in bs ≡ o → writable (read_as o) ≡ true → bs ≡ line_of (read_as o)
-    by None f h = absurd (both_ways true (sym h) refl)
+    by None f h = cc
     by (Some e) f h = kept (writable e) refl h
       where
         kept : (t : Bool) → writable e ≡ t → writable (cond t e spoiled) ≡ true → bs ≡ line_of (cond t e spoiled)
         kept true w h = fields_back bs e f
-        kept false w h = absurd (both_ways true (sym h) refl)
+        kept false w h = cc
 
 pub else_spoiled : ElseSpoiled
 else_spoiled bs n = by (fields_in bs) refl

@@ -32,11 +32,7 @@ impl Entry {
     fn has_no_numbers(&self) -> bool
         ensures { result ≡ no_numbers self.now }
     {
-        self.lot_size == 0
-            && self.units == 0
-            && self.tally.critical == 0
-            && self.tally.major == 0
-            && self.tally.minor == 0
+        self.lot_size == 0 && self.units == 0 && self.tally == Tally::CLEAN
     }
 
     // Its numbers fit the digits of their fields.

@@ -27,15 +27,17 @@ fn take_number(bytes: &[u8], width: usize, end: u8) -> Option<(u32, &[u8])>
     requires { width ≤ 9 }
     ensures { option_map (λ p. (p.0, p.1.now)) result ≡ number_at width end bytes.now }
 {
-    if bytes.len() <= width || bytes[width] != end {
+    let (digits, rest) = bytes.split_at_checked(width)?;
+    let [ended, rest @ ..] = rest else {
+        return None;
+    };
+    if *ended != end {
         return None;
     }
-    match read_digits(&bytes[0..width]) {
-        Some(number) => Some((number, &bytes[width + 1..])),
-        None => None,
-    }
+    Some((read_digits(digits)?, rest))
 }
 
+#[tactic(auto, using(crate::proofs::Chains::not_ended))]
 fn read_numbers(bytes: &[u8]) -> Option<Numbers>
     ensures { result ≡ numbers_in bytes.now }
 {
@@ -43,43 +45,42 @@ fn read_numbers(bytes: &[u8]) -> Option<Numbers>
     let (units, rest) = take_number(rest, 4, b'\t')?;
     let (critical, rest) = take_number(rest, 5, b'\t')?;
     let (major, rest) = take_number(rest, 5, b'\t')?;
-    let (minor, rest) = take_number(rest, 5, b'\n')?;
-    if !rest.is_empty() {
+    let (minor, []) = take_number(rest, 5, b'\n')? else {
         return None;
-    }
-    let tally = Tally {
-        critical,
-        major,
-        minor,
     };
     Some(Numbers {
         lot_size,
         units,
-        tally,
+        tally: Tally {
+            critical,
+            major,
+            minor,
+        },
     })
 }
 
 fn read_parts(kind: u8, status: u8, verdict: u8, numbers: &[u8]) -> Option<Entry>
     ensures { result ≡ joint (kind_of kind) (status_of status) (verdict_of verdict) (numbers_in numbers.now) }
 {
-    match (
-        Kind::from_letter(char::from(kind)),
-        Status::from_letter(char::from(status)),
-        Verdict::from_letter(char::from(verdict)),
-        read_numbers(numbers),
-    ) {
-        (Some(kind), Some(status), Some(verdict), Some(numbers)) => Some(Entry {
-            kind,
-            status,
-            verdict,
-            lot_size: numbers.lot_size,
-            units: numbers.units,
-            tally: numbers.tally,
-        }),
-        _ => None,
-    }
+    let kind = Kind::try_from(char::from(kind)).ok()?;
+    let status = Status::try_from(char::from(status)).ok()?;
+    let verdict = Verdict::try_from(char::from(verdict)).ok()?;
+    let Numbers {
+        lot_size,
+        units,
+        tally,
+    } = read_numbers(numbers)?;
+    Some(Entry {
+        kind,
+        status,
+        verdict,
+        lot_size,
+        units,
+        tally,
+    })
 }
 
+#[tactic(auto, using(crate::proofs::Chains::fields_at))]
 fn read_fields(line: &[u8]) -> Option<Entry>
     ensures { result ≡ fields_in line.now }
 {
@@ -93,10 +94,7 @@ fn read_fields(line: &[u8]) -> Option<Entry>
 pub fn read_line(line: &[u8]) -> Entry
     ensures { result ≡ entry_in line.now }
 {
-    match read_fields(line) {
-        Some(entry) => entry.or_spoiled(),
-        None => Entry::SPOILED,
-    }
+    read_fields(line).map_or(Entry::SPOILED, |entry| entry.or_spoiled())
 }
 
 // A number in its field: digits, and the byte that ends the field.
@@ -113,23 +111,29 @@ fn put_numbers(places: &mut [u8], entry: &Entry)
     requires { length places.old ≡ 31 }
     ensures { places.new ≡ numbers_text entry.now.lot_size entry.now.units entry.now.tally }
 {
-    put_number(&mut places[0..8], entry.lot_size, b'\t');
-    put_number(&mut places[8..13], entry.units, b'\t');
-    put_number(&mut places[13..19], entry.tally.critical, b'\t');
-    put_number(&mut places[19..25], entry.tally.major, b'\t');
-    put_number(&mut places[25..31], entry.tally.minor, b'\n');
+    let (lot_size, rest) = places.split_at_mut(8);
+    let (units, rest) = rest.split_at_mut(5);
+    let (critical, rest) = rest.split_at_mut(6);
+    let (major, minor) = rest.split_at_mut(6);
+    put_number(lot_size, entry.lot_size, b'\t');
+    put_number(units, entry.units, b'\t');
+    put_number(critical, entry.tally.critical, b'\t');
+    put_number(major, entry.tally.major, b'\t');
+    put_number(minor, entry.tally.minor, b'\n');
 }
 
 fn put_letters(places: &mut [u8], entry: &Entry)
     requires { length places.old ≡ 6 }
     ensures { places.new ≡ letters_text entry.now }
 {
-    places[0] = entry.kind.letter() as u8;
-    places[1] = b'\t';
-    places[2] = entry.status.letter() as u8;
-    places[3] = b'\t';
-    places[4] = entry.verdict.letter() as u8;
-    places[5] = b'\t';
+    places.copy_from_slice(&[
+        char::from(entry.kind) as u8,
+        b'\t',
+        char::from(entry.status) as u8,
+        b'\t',
+        char::from(entry.verdict) as u8,
+        b'\t',
+    ]);
 }
 
 // Writes the entry's line where there is place for just a line, and says whether there was.
@@ -140,8 +144,9 @@ pub fn write_line(place: &mut [u8], entry: &Entry) -> bool
     if place.len() != LINE {
         return false;
     }
-    put_letters(&mut place[0..6], entry);
-    put_numbers(&mut place[6..37], entry);
+    let (letters, numbers) = place.split_at_mut(6);
+    put_letters(letters, entry);
+    put_numbers(numbers, entry);
     true
 }
 

@@ -6,3 +6,4 @@ pub mod Calling
 pub mod Sheets
 pub mod Retaking
 pub mod Replayed
+pub mod Slips

@@ -6,7 +6,7 @@ use Rattle.inspection.specs.declared.status.Status.{Status}
 use Rattle.regimes.specs.Rules.{Rules}
 use Rattle.runs.specs.declared.standing.Standing.{Standing}
 use Rattle.runs.specs.History.{Article, verdicts}
-use Rattle.runs.specs.Lines.{counted_on, in_spell, last_articles}
+use Rattle.runs.specs.Lines.{counted_on, in_spell, last_articles, turned_to}
 use Rattle.runs.specs.Spells.{breaks, turned}
 use Rattle.line.specs.Doing.{article_noted}
 
@@ -30,8 +30,8 @@ module _ {C : Type 0} (r : Rules C) (st : Standing C) (entries : List Entry) (re
   with_parts s n k =
       record { status = s; spell = n; period = st.period; waiting = st.waiting; slip_out = st.slip_out; carried = k; unsound = st.unsound }
 
-  pub noted_turned : (s : Status) (k : C) → s ≡ turned st.status → k ≡ r.starts s → true ≡ turning → with_parts s 0 k ≡ article_noted r st entries rejected c
-  noted_turned s k es ek e = (λ i. with_parts (es i) 0 ((ek ∙ ap r.starts es) i)) ∙ ap noted_by e
+  pub noted_turned : (s : Status) (after : Standing C) → s ≡ turned st.status → after ≡ turned_to r s st → true ≡ turning → after ≡ article_noted r st entries rejected c
+  noted_turned s after es is e = is ∙ ap (λ s. turned_to r s st) es ∙ ap noted_by e
 
   pub noted_kept : (n : ℕ) → n ≡ counted_on st.spell → false ≡ turning → with_parts st.status n c ≡ article_noted r st entries rejected c
   noted_kept n en e = ap (λ m. with_parts st.status m c) en ∙ ap noted_by e

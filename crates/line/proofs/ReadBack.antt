@@ -16,7 +16,7 @@ use Rattle.runs.specs.Lines.{Sample as Ruled, Reading, sole, both, read_by, read
 use Rattle.runs.specs.LookingBack.{sample_back, with_first, article_back}
 use Rattle.runs.specs.Spells.{rejections}
 use Rattle.runs.proofs.LookingBack.{reading_more, last_none, last_more}
-use Rattle.line.specs.declared.looking.Sample.{Sample}
+use Rattle.line.specs.declared.sample.Sample.{Sample}
 use Rattle.line.specs.declared.looking.Seen.{Seen}
 use Rattle.line.specs.Seeing.{seen_of, seen_back, seen_decided, seen_entry, seen_sample, as_held, first_of_lot, first_back, together, Within}
 

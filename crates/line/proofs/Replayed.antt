@@ -1,7 +1,19 @@
 -- One entry more of a book is replayed.
-use Rattle.std.proofs.Common.{◌≡◌, ℕ, suc, ◌+◌, ◌<◌, ◌≤◌, Bool, true, false, List, [], ◌∷◌, ◌++◌, length, get_or, take, drop, is_some, Some, None, Option, sym, refl, ap, ◌∙◌, arith}
+use Rattle.std.proofs.Common.{◌≡◌, ℕ, suc, ◌+◌, ◌<◌, ◌≤◌, Bool, true, false, cond, ◌==◌, ◌&&◌, List, [], ◌∷◌, ◌++◌, length, get_or, take, drop, is_some, Some, None, Option, sym, refl, ap, ◌∙◌, arith}
 use Rattle.std.proofs.lemmas.List.{take_more, drop_more, drop_all}
 use Rattle.std.proofs.lemmas.Bool.{true≢false}
+use denote.Enum.Declared.{tag_of}
+use Rattle.std.specs.Option.{option_eq}
+use Rattle.inspection.specs.Statuses.{rank}
+use Rattle.inspection.specs.contracts.kind.Kind.{the_type as the_kinds}
+use Rattle.inspection.specs.contracts.status.Status.{the_type as the_statuses}
+use Rattle.inspection.specs.contracts.verdict.Verdict.{the_type as the_verdicts}
+use Rattle.inspection.specs.declared.kind.Kind.{Kind}
+use Rattle.inspection.specs.declared.kind.Kind.TheVariants as kind
+use Rattle.inspection.specs.declared.status.Status.{Status}
+use Rattle.inspection.specs.declared.status.Status.TheVariants.{Normal, Tightened, Reduced}
+use Rattle.inspection.specs.declared.verdict.Verdict.{Verdict}
+use Rattle.inspection.specs.declared.verdict.Verdict.TheVariants.{Accepted, Rejected, Awaited, Full, Brief, Undecided}
 use Rattle.inspection.specs.declared.refusal.Refusal.{Refusal}
 use Rattle.entries.specs.declared.entry.Entry.{Entry}
 use Rattle.entries.specs.Entries.{spoiled}
@@ -12,19 +24,48 @@ use Rattle.runs.specs.declared.standing.Standing.{Standing}
 use Rattle.runs.specs.declared.standing.Taken.{Taken}
 use Rattle.runs.specs.History.{Call}
 use Rattle.runs.specs.Lines.{due_number, with_slip, refuses, takes}
-use Rattle.runs.specs.Runs.{same_entry, call_for, showing, unsound_at, held_to, replayed_by, replay_one, replay_on}
-use Rattle.runs.proofs.Replay.{same_entry_exactly}
+use Rattle.runs.specs.Runs.{is_entry, kind_code, verdict_code, same_tally, call_for, showing, unsound_at, held_to, replayed_by, replay_one, replay_on}
 use Rattle.line.proofs.ReadBack.{some_same, some_not_none}
 use Rattle.line.specs.Replaying.{taken_unless, left_by, retaken_by, retaken}
 
--- a test that holds exactly where two entries are equal
-pub tells_entries : (b : Bool) (x e : Entry) → (b ≡ true → x ≡ e) → (x ≡ e → b ≡ true) → b ≡ same_entry x e
-tells_entries b x e is so = by b (same_entry x e) (λ t. (same_entry_exactly x e).1 (is t)) (λ t. so ((same_entry_exactly x e).0 t))
-  where
-    by : (b c : Bool) → (b ≡ true → c ≡ true) → (c ≡ true → b ≡ true) → b ≡ c
-    by true c f g = sym (f refl)
-    by false true f g = g refl
-    by false false f g = refl
+kind_tag : (k : Kind) → tag_of the_kinds k ≡ kind_code k
+kind_tag kind.PeriodOpened = refl
+kind_tag kind.Portion = refl
+kind_tag kind.PeriodEnded = refl
+kind_tag kind.Lot = refl
+kind_tag kind.SecondSample = refl
+kind_tag kind.Relief = refl
+kind_tag kind.IrregularNotice = refl
+kind_tag kind.Spoiled = refl
+
+status_tag : (s : Status) → tag_of the_statuses s ≡ rank s
+status_tag Normal = refl
+status_tag Tightened = refl
+status_tag Reduced = refl
+
+verdict_tag : (v : Verdict) → tag_of the_verdicts v ≡ verdict_code v
+verdict_tag Accepted = refl
+verdict_tag Rejected = refl
+verdict_tag Awaited = refl
+verdict_tag Full = refl
+verdict_tag Brief = refl
+verdict_tag Undecided = refl
+
+-- the derived equality of entries
+abbrev pub tags_alike : Entry → Entry → Bool
+tags_alike x e =
+    tag_of the_kinds x.kind == tag_of the_kinds e.kind
+    && (tag_of the_statuses x.status == tag_of the_statuses e.status
+    && (tag_of the_verdicts x.verdict == tag_of the_verdicts e.verdict && (x.lot_size == e.lot_size && (x.units == e.units && same_tally x.tally e.tally))))
+
+pub wrote_entry : (o : Option Entry) (e : Entry) → option_eq tags_alike o (Some e) ≡ is_entry e o
+wrote_entry None e = refl
+wrote_entry (Some x) e =
+    λ i. kind_tag x.kind i == kind_tag e.kind i && (status_tag x.status i == status_tag e.status i && (verdict_tag x.verdict i == verdict_tag e.verdict i && (x.lot_size == e.lot_size && (x.units == e.units && same_tally x.tally e.tally))))
+
+-- where the call wrote the entry, the line is left as it left it
+pub left_written : {C : Type 0} (e : Entry) (o : Option (Taken C)) (k : Taken C) (bad : Standing C) → o ≡ Some k → true ≡ option_eq tags_alike k.writes (Some e) → with_slip false k.standing ≡ left_by e o bad
+left_written e o k bad is wrote = ap (λ b. cond b (with_slip false k.standing) bad) (wrote ∙ wrote_entry k.writes e) ∙ ap (λ o. left_by e o bad) (sym is)
 
 module _ {C : Type 0} (r : Rules C) (st : Standing C) (es : List Entry) (e : Entry) where
   left_held : (x : Option Refusal) (k : Taken C) (bad : Standing C) → left_by e (taken_unless x k) bad ≡ held_to e x k bad

@@ -1,5 +1,6 @@
 -- What a call with a sheet comes to again, by the units of its sample.
 use Rattle.std.proofs.Common.{◌≡◌, ℕ, ◌+◌, ◌*◌, ◌≤◌, Bool, true, false, cond, not, leb, List, [], ◌∷◌, length, is_some, Some, None, Ok, Err, Option, Result, refl, ap, ◌∙◌, arith}
+use Rattle.std.specs.Result.{result_ok}
 use Rattle.inspection.specs.declared.refusal.Refusal.{Refusal}
 use Rattle.inspection.specs.declared.refusal.Refusal.TheVariants.{LotAwaits, NoRoom, LotSizeOutOfRange, BookUnsound, SheetLineNotOfForm}
 use Rattle.inspection.specs.declared.tally.Tally.{Tally}
@@ -14,7 +15,8 @@ use Rattle.runs.specs.History.{first, fault, scored, enter_lot}
 use Rattle.runs.specs.Lines.{counted_on, awaiting, told, lot_taken, sample, or_zero}
 use Rattle.runs.specs.Runs.{showing}
 use Rattle.line.specs.Doing.{units_unless, lot_sample, lot_judged_at, lot_taken_at}
-use Rattle.line.specs.Replaying.{taken_unless, retaken_by}
+use Rattle.line.specs.declared.sample.Sample.{Sample}
+use Rattle.line.specs.Replaying.{sample_showing, taken_unless, retaken_by}
 
 module _ {C : Type 0} (t : Tally) (K : ℕ → Tally → Taken C) where
   -- as the code finds it
@@ -58,6 +60,17 @@ lot_at {C} r before z u t x st es is few = by x.0 x.1
     by Brief c = refl
     by Undecided c = refl
 
+was_ok : (u : ℕ) (found : Result ℕ Refusal) → Some u ≡ result_ok found → Ok u ≡ found
+was_ok u (Ok v) e = let same : u ≡ v = cc in ap {B = Result ℕ Refusal} (λ n. Ok n) same
+was_ok u (Err x) e = let z : ◌≡◌ {A = ℕ} 0 1 = cc in absurd (omega arith)
+
+sample_shown : (u : ℕ) (t : Tally) (a : Sample) → Some a ≡ sample_showing u t → (true ≡ leb (total_of t) (9 * u)) × (a ≡ record { units = u; tally = t })
+sample_shown u t a = by (leb (total_of t) (9 * u))
+  where
+    by : (b : Bool) → Some a ≡ cond b (Some (record { units = u; tally = t })) None → (true ≡ b) × (a ≡ record { units = u; tally = t })
+    by true e = (refl, cc)
+    by false e = let z : ◌≡◌ {A = ℕ} 0 1 = cc in absurd (omega arith)
+
 module _ {C : Type 0} (r : Rules C) (st : Standing C) (es : List Entry) (e : Entry) where
   abbrev lot_with : ℕ → Tally → Taken C
   lot_with u t = lot_taken r e.lot_size u t (r.judged st.status e.lot_size t st.carried) st es
@@ -67,10 +80,11 @@ module _ {C : Type 0} (r : Rules C) (st : Standing C) (es : List Entry) (e : Ent
       retaken_by_sample e.tally lot_with st.unsound ((is_some st.waiting, LotAwaits) ∷ (leb 1 0, NoRoom) ∷ (not (is_some (sample r st e.lot_size)), LotSizeOutOfRange) ∷ []) (or_zero (sample r st e.lot_size))
 
   -- a lot whose sample can show the entry's tally
-  pub lot_again : (before u : ℕ) (taken : Taken C) → length es ≡ before → before ≤ 9999999 → Ok u ≡ lot_sample r st 1 e.lot_size → true ≡ leb (total_of e.tally) (9 * u)
-      → taken ≡ lot_taken_at r before e.lot_size u e.tally st es → Some taken ≡ retaken_by r (Some (enter_lot e.lot_size [])) e st es
-  lot_again before u taken is few units shows came =
-      ap {B = Option (Taken C)} (λ k. Some k) (came ∙ lot_at r before e.lot_size u e.tally (r.judged st.status e.lot_size e.tally st.carried) st es is few)
-      ∙ ap (λ b. cond b (Some (lot_with u e.tally)) None) shows
-      ∙ ap (by_sample e.tally lot_with) units
+  pub lot_again : (before u : ℕ) (found : Result ℕ Refusal) (a : Sample) (taken : Taken C) → length es ≡ before → before ≤ 9999999 → found ≡ lot_sample r st 1 e.lot_size → Some u ≡ result_ok found → Some a ≡ sample_showing u e.tally
+      → taken ≡ lot_taken_at r before e.lot_size a.units a.tally st es → Some taken ≡ retaken_by r (Some (enter_lot e.lot_size [])) e st es
+  lot_again before u found a taken is few sampled units shows came =
+      let shown = sample_shown u e.tally a shows in
+      ap {B = Option (Taken C)} (λ k. Some k) (came ∙ ap (λ (a : Sample). lot_taken_at r before e.lot_size a.units a.tally st es) shown.1 ∙ lot_at r before e.lot_size u e.tally (r.judged st.status e.lot_size e.tally st.carried) st es is few)
+      ∙ ap (λ b. cond b (Some (lot_with u e.tally)) None) shown.0
+      ∙ ap (by_sample e.tally lot_with) (was_ok u found units ∙ sampled)
       ∙ lot_by_sample

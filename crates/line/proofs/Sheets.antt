@@ -13,12 +13,13 @@ use Rattle.regimes.specs.Rules.{Rules}
 use Rattle.runs.specs.declared.standing.Reply.{Reply}
 use Rattle.runs.specs.declared.standing.Standing.{Standing}
 use Rattle.runs.specs.declared.standing.Taken.{Taken}
-use Rattle.runs.specs.History.{enter_portion, enter_lot, enter_second, first, fault, scored}
-use Rattle.runs.specs.Lines.{told, counted_on, awaiting, reading, or_zero, due_size, is_due, sample, settled, refuses, takes, step, portion_taken, lot_taken, second_taken}
+use Rattle.runs.specs.History.{Call, enter_portion, enter_lot, enter_second, first, fault, scored}
+use Rattle.runs.specs.Lines.{told, counted_on, awaiting, reading, or_zero, due_size, is_due, sample, refuses, takes, step, portion_taken, lot_taken, second_taken}
 use Rattle.runs.specs.Runs.{Served}
 use Rattle.runs.specs.Writing.{sheet_score, WritesOnlyWritable}
-use Rattle.line.specs.Doing.{ComesTo, add_refusal, units_unless, portion_sample, lot_sample, second_sample, lot_judged_at, lot_taken_at, second_taken_at}
-use Rattle.line.proofs.Calling.{unless_unsound, comes_written}
+use Rattle.line.specs.declared.line.Line.{Line}
+use Rattle.line.specs.Doing.{Does, booked, units_unless, portion_sample, lot_sample, second_sample, lot_judged_at, lot_taken_at, second_taken_at}
+use Rattle.line.proofs.Calling.{unless_unsound, call_written}
 
 module _ (x y z : Refusal) (v : ℕ) (o : Option Refusal) where
   abbrev unless : Option ℕ → Bool → Bool → Bool → Option Refusal → Option Refusal
@@ -120,37 +121,49 @@ lot_same r before z u t Undecided c st es e = refl
 read_whole : (before : ℕ) (es : List Entry) → before ≡ length es → take before es ≡ es
 read_whole before es e = take_all before es (omega arith)
 
--- the accepted calls, where `before` is the book's count and `room` its room
-module _ {C : Type 0} (r : Rules C) (only : WritesOnlyWritable r sheet_score) (st : Standing C) (es : List Entry) (n : ℕ) (b : List ℕ) (k : Taken C) (a : Result Reply Refusal) (s : Standing C) (later : List Entry) (m : ℕ)
-    (after : ComesTo (settled (add_refusal n k.writes) k st es n) a s later m) (before : ℕ) (count : before ≡ length es) (room : ℕ) (left : room ≡ n) (w : ℕ) (t : Tally) (shown : Ok t ≡ score_of b w) where
-  pub portion_comes : Served r (enter_portion b) → Ok w ≡ portion_sample r st room → k ≡ portion_taken r w t (r.judged st.status 0 t st.carried) st (take before es) → ComesTo (step r sheet_score (enter_portion b) st es n) a s later m
+-- the accepted calls of sheets that showed the sample, where `count` is the book's and `left` its room
+module _ {R B C : Type 0} (entries : B → List Entry) (room : B → ℕ) (r : Rules C) (only : WritesOnlyWritable r sheet_score) (before after : Line R B C) (k : Taken C) (a : Result Reply Refusal) (done : Does entries room (booked k) before a after)
+    (b : List ℕ) (count : ℕ) (counted : count ≡ length (entries before.book)) (left : ℕ) (left_is : left ≡ room before.book) (w : ℕ) (t : Tally) (shown : Ok t ≡ score_of b w) where
+  abbrev Comes : Call → Type 0
+  Comes c = Does entries room (step r sheet_score c) before a after
+
+  pub portion_comes : Served r (enter_portion b) → Ok w ≡ portion_sample r before.standing left → k ≡ portion_taken r w t (r.judged before.standing.status 0 t before.standing.carried) before.standing (take count (entries before.book)) → Comes (enter_portion b)
   portion_comes served units taken =
+      let st = before.standing in
+      let es = entries before.book in
+      let n = room before.book in
       let u = or_zero (sample r st 0) in
-      let sampled = portion_sampled r st es n b room left w units in
+      let sampled = portion_sampled r st es n b left left_is w units in
       let none = sound b w u sampled.0 t shown ∙ sampled.1 in
       let tally = tally_known b w u sampled.0 t shown in
       let judged = r.judged st.status 0 t st.carried in
-      let same : k ≡ takes r sheet_score (enter_portion b) st es = taken ∙ ap (portion_taken r w t judged st) (read_whole before es count) ∙ (λ i. portion_taken r (sampled.0 i) (tally i) (r.judged st.status 0 (tally i) st.carried) st es) in
-      comes_written r st es n k a s later m after (enter_portion b) _ none same refl sampled.2 (only (enter_portion b) st es n _ served (sym none) refl)
+      let same : k ≡ takes r sheet_score (enter_portion b) st es = taken ∙ ap (portion_taken r w t judged st) (read_whole count es counted) ∙ (λ i. portion_taken r (sampled.0 i) (tally i) (r.judged st.status 0 (tally i) st.carried) st es) in
+      call_written entries room r before after k a done (enter_portion b) _ none same refl sampled.2 (only (enter_portion b) st es n _ served (sym none) refl)
 
-  pub lot_comes : (z : ℕ) → Served r (enter_lot z b) → length es + n ≤ 9999999 → Ok w ≡ lot_sample r st room z → k ≡ lot_taken_at r before z w t st (take before es) → ComesTo (step r sheet_score (enter_lot z b) st es n) a s later m
+  pub lot_comes : (z : ℕ) → Served r (enter_lot z b) → length (entries before.book) + room before.book ≤ 9999999 → Ok w ≡ lot_sample r before.standing left z → k ≡ lot_taken_at r count z w t before.standing (take count (entries before.book)) → Comes (enter_lot z b)
   lot_comes z served few units taken =
+      let st = before.standing in
+      let es = entries before.book in
+      let n = room before.book in
       let u = or_zero (sample r st z) in
-      let sampled = lot_sampled r st es n b room left z w units in
+      let sampled = lot_sampled r st es n b left left_is z w units in
       let none = sound b w u sampled.0 t shown ∙ sampled.1 in
       let tally = tally_known b w u sampled.0 t shown in
       let judged = r.judged st.status z t st.carried in
       let same : k ≡ takes r sheet_score (enter_lot z b) st es =
-      taken ∙ ap (lot_taken_at r before z w t st) (read_whole before es count) ∙ lot_same r before z w t judged.0 judged.1 st es (omega arith) ∙ (λ i. lot_taken r z (sampled.0 i) (tally i) (r.judged st.status z (tally i) st.carried) st es)
+      taken ∙ ap (lot_taken_at r count z w t st) (read_whole count es counted) ∙ lot_same r count z w t judged.0 judged.1 st es (omega arith) ∙ (λ i. lot_taken r z (sampled.0 i) (tally i) (r.judged st.status z (tally i) st.carried) st es)
       in
-      comes_written r st es n k a s later m after (enter_lot z b) _ none same refl sampled.2 (only (enter_lot z b) st es n _ served (sym none) refl)
+      call_written entries room r before after k a done (enter_lot z b) _ none same refl sampled.2 (only (enter_lot z b) st es n _ served (sym none) refl)
 
-  pub second_comes : (number : ℕ) → Served r (enter_second number b) → Ok w ≡ second_sample r st room number → k ≡ second_taken_at r w t st (take before es) → ComesTo (step r sheet_score (enter_second number b) st es n) a s later m
+  pub second_comes : (number : ℕ) → Served r (enter_second number b) → Ok w ≡ second_sample r before.standing left number → k ≡ second_taken_at r w t before.standing (take count (entries before.book)) → Comes (enter_second number b)
   second_comes number served units taken =
+      let st = before.standing in
+      let es = entries before.book in
+      let n = room before.book in
       let z = due_size st.waiting in
       let u = or_zero (sample r st z) in
-      let sampled = second_sampled r st es n b room left number w units in
+      let sampled = second_sampled r st es n b left left_is number w units in
       let none = sound b w u sampled.0 t shown ∙ sampled.1 in
       let tally = tally_known b w u sampled.0 t shown in
-      let same : k ≡ takes r sheet_score (enter_second number b) st es = taken ∙ ap (second_taken_at r w t st) (read_whole before es count) ∙ (λ i. second_taken r z (sampled.0 i) (tally i) (r.judged st.status z (tally i) st.carried) (reading es).first_sample st es) in
-      comes_written r st es n k a s later m after (enter_second number b) _ none same refl sampled.2 (only (enter_second number b) st es n _ served (sym none) refl)
+      let same : k ≡ takes r sheet_score (enter_second number b) st es = taken ∙ ap (second_taken_at r w t st) (read_whole count es counted) ∙ (λ i. second_taken r z (sampled.0 i) (tally i) (r.judged st.status z (tally i) st.carried) (reading es).first_sample st es) in
+      call_written entries room r before after k a done (enter_second number b) _ none same refl sampled.2 (only (enter_second number b) st es n _ served (sym none) refl)

@@ -1,5 +1,5 @@
 -- What a call comes to, in the steps that the code takes.
-use Rattle.std.specs.Prelude.{◌≡◌, ℕ, Bool, false, cond, not, List, [], ◌∷◌, is_some, Some, None, Ok, Err, Option, Result, nat_le}
+use Rattle.std.specs.Prelude.{◌≡◌, ℕ, Bool, true, false, cond, not, List, [], ◌∷◌, is_err, is_some, Some, None, Ok, Err, Option, Result, nat_le}
 use Rattle.inspection.specs.declared.refusal.Refusal.{Refusal}
 use Rattle.inspection.specs.declared.refusal.Refusal.TheVariants.{NoPeriodOpen, LotAwaits, NoLotAwaits, LotSizeOutOfRange, NoRoom, BookUnsound}
 use Rattle.inspection.specs.declared.kind.Kind.{Kind}
@@ -8,6 +8,7 @@ use Rattle.inspection.specs.declared.tally.Tally.{Tally}
 use Rattle.inspection.specs.declared.verdict.Verdict.{Verdict}
 use Rattle.inspection.specs.declared.status.Status.{Status}
 use Rattle.inspection.specs.declared.verdict.Verdict.TheVariants.{Awaited, Undecided}
+use Rattle.line.specs.declared.line.Line.{Line}
 use Rattle.runs.specs.declared.standing.Taken.{Taken}
 use Rattle.entries.specs.declared.entry.Entry.{Entry}
 use Rattle.books.specs.Books.{refusal}
@@ -15,16 +16,26 @@ use Rattle.regimes.specs.Rules.{Rules}
 use Rattle.runs.specs.declared.standing.Reply.{Reply}
 use Rattle.runs.specs.declared.standing.Standing.{Standing}
 use Rattle.runs.specs.History.{first, no_defects, is_awaited, is_rejected}
-use Rattle.runs.specs.Lines.{counted_on, awaiting, with_slip, after_article, turned_to, told, bare, Outcome, sample, or_zero, is_due, due_size}
+use Rattle.runs.specs.Lines.{counted_on, awaiting, with_slip, after_article, turned_to, told, bare, Outcome, settled, sample, or_zero, is_due, due_size}
 
 -- answer, standing, entries and room after a call are the defined ones
 abbrev pub ComesTo : {C : Type 0} → Outcome C → Result Reply Refusal → Standing C → List Entry → ℕ → Type 0
 ComesTo o a st es n = (a ≡ o.answer) × (st ≡ o.standing) × (es ≡ o.entries) × (n ≡ o.room)
 
+-- a call's step on a line: the answer, the standing and the book after it are the defined ones, the regime stays, and a refusal leaves the whole line as it was
+pub record Does {R B C : Type 0} (entries : B → List Entry) (room : B → ℕ) (step : Standing C → List Entry → ℕ → Outcome C) (before : Line R B C) (answer : Result Reply Refusal) (after : Line R B C) : Type 0 where
+  pub call : ComesTo (step before.standing (entries before.book) (room before.book)) answer after.standing (entries after.book) (room after.book)
+  pub same : is_err answer ≡ true → after ≡ before
+  pub regime : after.regime ≡ before.regime
+
 -- what a book refuses to write
 abbrev pub add_refusal : ℕ → Option Entry → Option Refusal
 add_refusal n None = None
 add_refusal n (Some e) = refusal n e
+
+-- a call that no rule refuses, as the book takes its entry
+abbrev pub booked : {C : Type 0} → Taken C → Standing C → List Entry → ℕ → Outcome C
+booked k st es n = settled (add_refusal n k.writes) k st es n
 
 -- so many units, unless one of the refusals holds
 abbrev pub units_unless : Option Refusal → ℕ → Result ℕ Refusal

@@ -1,6 +1,9 @@
 -- Replaying an entry, in the steps that the code takes.
-use Rattle.std.specs.Prelude.{false, cond, List, Some, None, Option}
+use Rattle.std.specs.Prelude.{ℕ, ◌*◌, false, cond, List, Some, None, Option, nat_le}
 use Rattle.inspection.specs.declared.refusal.Refusal.{Refusal}
+use Rattle.inspection.specs.Tallies.{total_of}
+use Rattle.inspection.specs.declared.tally.Tally.{Tally}
+use Rattle.line.specs.declared.sample.Sample.{Sample}
 use Rattle.entries.specs.declared.entry.Entry.{Entry}
 use Rattle.regimes.specs.Rules.{Rules}
 use Rattle.runs.specs.declared.standing.Standing.{Standing}
@@ -8,6 +11,10 @@ use Rattle.runs.specs.declared.standing.Taken.{Taken}
 use Rattle.runs.specs.History.{Call}
 use Rattle.runs.specs.Lines.{due_number, with_slip, refuses, takes}
 use Rattle.runs.specs.Runs.{is_entry, call_for, showing}
+
+-- a sample of so many units that showed the tally, if some sheet could: at most nine defects to a unit
+abbrev pub sample_showing : ℕ → Tally → Option Sample
+sample_showing u t = cond (nat_le (total_of t) (9 * u)) (Some (record { units = u; tally = t })) None
 
 module _ {C : Type 0} where
   -- what a call comes to, where it is not refused

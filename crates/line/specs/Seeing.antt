@@ -1,5 +1,5 @@
 -- What is seen of articles: how many, how many rejected, their units and defects.
-use Rattle.regimes.specs.declared.judge.Limits.{Limits}
+use Rattle.regimes.specs.Rules.{Limits}
 use Rattle.regimes.specs.Rules.{Rules}
 use Rattle.inspection.specs.declared.refusal.Refusal.TheVariants.{TooManyRejected, TooFewUnits, DefectsAboveLimit}
 use Rattle.inspection.specs.declared.refusal.Refusal.{Refusal}
@@ -12,7 +12,7 @@ use Rattle.runs.specs.History.{Article, verdicts, units_of, defects_of, first}
 use Rattle.runs.specs.Lines.{Sample as Ruled, reading, articles, last_articles}
 use Rattle.runs.specs.LookingBack.{sample_back, article_back}
 use Rattle.runs.specs.Spells.{rejections}
-use Rattle.line.specs.declared.looking.Sample.{Sample}
+use Rattle.line.specs.declared.sample.Sample.{Sample}
 use Rattle.line.specs.declared.looking.Seen.{Seen}
 
 abbrev pub seen_of : List Article → Seen

@@ -2,7 +2,7 @@
 use Rattle.std.specs.Prelude.{◌≡◌, ℕ, Some, None, Ok, Err, Option, Result}
 use Rattle.inspection.specs.declared.refusal.Refusal.{Refusal}
 use Rattle.runs.specs.declared.standing.Reply.{Reply}
-use Rattle.line.specs.declared.lots.Refused.{Refused}
+use Rattle.line.specs.declared.slip.Refused.{Refused}
 use Rattle.line.specs.declared.slip.Slip.{Slip}
 
 -- the answer alone

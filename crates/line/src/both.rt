@@ -1,9 +1,8 @@
 // Calls of either kind of line: relief and irregular notices, and how an accepted call is written down.
-ghost use Rattle.std.specs.Prelude.{◌≡◌, true, is_err};
 ghost use Rattle.runs.specs.History.{grant_relief, report_irregular};
-ghost use Rattle.runs.specs.Lines.{settled, step};
+ghost use Rattle.runs.specs.Lines.{step};
 ghost use Rattle.runs.specs.Writing.{sheet_score};
-ghost use Rattle.line.specs.Doing.{ComesTo, add_refusal};
+ghost use Rattle.line.specs.Doing.{Does, booked};
 
 use crate::line::Line;
 use books::book::Book;
@@ -17,48 +16,28 @@ where
 {
     // Writes the call's entry, if it has one, and stands as the call leaves the line.
     pub(crate) fn settle(&mut self, taken: Taken<R::Carried>) -> Result<Reply, Refusal>
-        ensures call { ComesTo (settled (add_refusal (B.Book.room self.old.book) taken.writes) taken self.old.standing (B.Book.entries self.old.book) (B.Book.room self.old.book)) result self.new.standing (B.Book.entries self.new.book) (B.Book.room self.new.book) }
-        ensures same { is_err result ≡ true → self.new ≡ self.old }
-        ensures regime { self.new.regime ≡ self.old.regime }
+        ensures { Does B.Book.entries B.Book.room (booked taken) self.old result self.new }
     {
-        let Some(entry) = taken.writes else {
-            self.standing = taken.standing;
-            return Ok(taken.reply);
-        };
-        match self.book.add(entry) {
-            Ok(()) => {
-                self.standing = taken.standing;
-                Ok(taken.reply)
-            }
-            Err(refusal) => Err(refusal),
+        if let Some(entry) = taken.writes {
+            self.book.add(entry)?;
         }
+        self.standing = taken.standing;
+        Ok(taken.reply)
     }
 
     pub(crate) fn grant_relief(&mut self) -> Result<Reply, Refusal>
-        ensures call { ComesTo (step (R.Regime.rules self.old.regime) sheet_score grant_relief self.old.standing (B.Book.entries self.old.book) (B.Book.room self.old.book)) result self.new.standing (B.Book.entries self.new.book) (B.Book.room self.new.book) }
-        ensures same { is_err result ≡ true → self.new ≡ self.old }
-        ensures regime { self.new.regime ≡ self.old.regime }
+        ensures { Does B.Book.entries B.Book.room (step (R.Regime.rules self.old.regime) sheet_score grant_relief) self.old result self.new }
     {
-        match self.relief_refusal(self.book.count(), self.book.room_left()) {
-            Some(refusal) => Err(refusal),
-            None => {
-                let taken = self.relief_taken();
-                self.settle(taken)
-            }
-        }
+        self.check_relief(self.book.count(), self.book.room_left())?;
+        let taken = self.relief_taken();
+        self.settle(taken)
     }
 
     pub(crate) fn report_irregular(&mut self) -> Result<Reply, Refusal>
-        ensures call { ComesTo (step (R.Regime.rules self.old.regime) sheet_score report_irregular self.old.standing (B.Book.entries self.old.book) (B.Book.room self.old.book)) result self.new.standing (B.Book.entries self.new.book) (B.Book.room self.new.book) }
-        ensures same { is_err result ≡ true → self.new ≡ self.old }
-        ensures regime { self.new.regime ≡ self.old.regime }
+        ensures { Does B.Book.entries B.Book.room (step (R.Regime.rules self.old.regime) sheet_score report_irregular) self.old result self.new }
     {
-        match self.notice_refusal(self.book.room_left()) {
-            Some(refusal) => Err(refusal),
-            None => {
-                let taken = self.notice_taken();
-                self.settle(taken)
-            }
-        }
+        self.check_notice(self.book.room_left())?;
+        let taken = self.notice_taken();
+        self.settle(taken)
     }
 }

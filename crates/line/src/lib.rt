@@ -6,6 +6,7 @@ pub mod line;
 mod looking;
 mod lots;
 mod portions;
+mod sample;
 mod setting;
 mod slip;
 mod taking;

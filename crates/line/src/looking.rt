@@ -3,14 +3,14 @@ ghost use Rattle.std.specs.Prelude.{◌≡◌, [], ◌∷◌, take};
 ghost use Rattle.runs.specs.History.{verdicts, is_rejected};
 ghost use Rattle.runs.specs.Lines.{in_spell, sole};
 ghost use Rattle.runs.specs.Spells.{breaks};
-ghost use Rattle.line.specs.Seeing.{seen_of, seen_sample, seen_entry, seen_back, first_of_lot, first_back, together, Within};
+ghost use Rattle.line.specs.Seeing.{seen_of, seen_sample, seen_entry, seen_back, first_back, together, Within};
 
 use crate::line::Line;
+use crate::sample::Sample;
 use books::book::Book;
 use entries::entry::Entry;
 use inspection::kind::Kind;
 use inspection::status::Status;
-use inspection::tally::Tally;
 use inspection::verdict::Verdict;
 use regimes::judge::{Judge, Regime};
 
@@ -23,28 +23,6 @@ pub(crate) struct Seen {
     pub(crate) critical: u64,
     pub(crate) major: u64,
     pub(crate) total: u64,
-}
-
-// A lot's first sample.
-#[derive(Clone, Copy)]
-pub(crate) struct Sample {
-    pub(crate) units: u32,
-    pub(crate) tally: Tally,
-}
-
-impl Sample {
-    // The first sample of a lot's entry, if the lot awaits its second.
-    fn of_lot(entry: Entry) -> Option<Sample>
-        ensures { result ≡ first_of_lot entry }
-    {
-        match entry.verdict {
-            Verdict::Awaited => Some(Sample {
-                units: entry.units,
-                tally: entry.tally,
-            }),
-            _ => None,
-        }
-    }
 }
 
 impl Seen {

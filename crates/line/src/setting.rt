@@ -1,56 +1,30 @@
 // Setting a line on a book: its entries are replayed, each as the call that would have written it.
-ghost use Rattle.std.specs.Prelude.{◌≡◌, ◌*◌, ◌<◌, true, false, [], length, take, Some, nat_le};
-ghost use Rattle.inspection.specs.Tallies.{total_of};
-ghost use Rattle.runs.specs.History.{enter_portion, enter_lot, enter_second};
-ghost use Rattle.runs.specs.Lines.{due_number};
-ghost use Rattle.runs.specs.Runs.{is_entry, call_for, unsound_at, replay_one, replay};
-ghost use Rattle.line.specs.Replaying.{taken_unless, left_by, retaken_by, retaken};
+ghost use Rattle.std.specs.Prelude.{◌≡◌, ◌<◌, true, false, [], length, take, Some};
+ghost use Rattle.runs.specs.History.{open_period, enter_portion, end_period, enter_lot, enter_second, grant_relief, report_irregular};
+ghost use Rattle.runs.specs.Lines.{due_number, refuses, takes};
+ghost use Rattle.runs.specs.Writing.{sheet_score};
+ghost use Rattle.runs.specs.Runs.{call_for, unsound_at, replay_one, replay};
+ghost use Rattle.line.specs.Replaying.{sample_showing, taken_unless, left_by, retaken_by, retaken};
 
 use crate::line::Line;
+use crate::sample::Sample;
 use books::book::Book;
 use entries::entry::Entry;
 use inspection::kind::Kind;
-use inspection::refusal::Refusal;
 use inspection::status::Status;
 use inspection::tally::Tally;
 use regimes::judge::{Judge, Regime};
 use runs::standing::{Standing, Taken};
-
-// A sheet of so many units can show the tally: at most nine defects to a unit.
-fn can_show(units: u32, tally: Tally) -> bool
-    ensures { result ≡ nat_le (total_of tally) (9 * units) }
-{
-    tally.total() <= 9 * units as u64
-}
-
-fn is_entry(written: Option<Entry>, entry: Entry) -> bool
-    ensures { result ≡ is_entry entry written }
-{
-    match written {
-        Some(written) => written == entry,
-        None => false,
-    }
-}
-
-fn taken_unless<C: Copy>(refusal: Option<Refusal>, taken: Taken<C>) -> Option<Taken<C>>
-    ensures { result ≡ taken_unless refusal taken }
-{
-    match refusal {
-        Some(_) => None,
-        None => Some(taken),
-    }
-}
 
 // Where the call left the line, if it wrote the entry.
 fn left_by<C: Copy>(entry: Entry, taken: Option<Taken<C>>, bad: Standing<C>) -> Standing<C>
     ensures { result ≡ left_by entry taken bad }
 {
     match taken {
-        Some(taken) if is_entry(taken.writes, entry) => {
-            let mut standing = taken.standing;
-            standing.slip_out = false;
-            standing
-        }
+        Some(taken) if taken.writes == Some(entry) => Standing {
+            slip_out: false,
+            ..taken.standing
+        },
         _ => bad,
     }
 }
@@ -58,69 +32,94 @@ fn left_by<C: Copy>(entry: Entry, taken: Option<Taken<C>>, bad: Standing<C>) -> 
 fn unsound_at<C: Copy>(number: u32, standing: Standing<C>) -> Standing<C>
     ensures { result ≡ unsound_at number standing }
 {
-    let mut bad = standing;
-    bad.slip_out = false;
-    bad.unsound = Some(number);
-    bad
+    Standing {
+        slip_out: false,
+        unsound: Some(number),
+        ..standing
+    }
+}
+
+// A sample of so many units that showed the tally, where some sheet could.
+fn shown(units: u32, tally: Tally) -> Option<Sample>
+    ensures { result ≡ sample_showing units tally }
+{
+    let sample = Sample { units, tally };
+    sample.can_be().then_some(sample)
 }
 
 impl<R: Regime, B: Book> Line<R, B>
 where
     R::Carried: Copy,
 {
+    fn open_retaken(&self) -> Option<Taken<R::Carried>>
+        ensures { result ≡ taken_unless (refuses (R.Regime.rules self.now.regime) sheet_score open_period self.now.standing [] 1) (takes (R.Regime.rules self.now.regime) sheet_score open_period self.now.standing []) }
+    {
+        self.check_open(1).ok()?;
+        Some(self.open_taken())
+    }
+
+    fn end_retaken(&self) -> Option<Taken<R::Carried>>
+        ensures { result ≡ taken_unless (refuses (R.Regime.rules self.now.regime) sheet_score end_period self.now.standing [] 1) (takes (R.Regime.rules self.now.regime) sheet_score end_period self.now.standing []) }
+    {
+        self.check_end(1).ok()?;
+        Some(self.end_taken())
+    }
+
+    fn relief_retaken(&self, before: u32) -> Option<Taken<R::Carried>>
+        ensures { result ≡ taken_unless (refuses (R.Regime.rules self.now.regime) sheet_score grant_relief self.now.standing (take before (B.Book.entries self.now.book)) 1) (takes (R.Regime.rules self.now.regime) sheet_score grant_relief self.now.standing []) }
+    {
+        self.check_relief(before, 1).ok()?;
+        Some(self.relief_taken())
+    }
+
+    fn notice_retaken(&self) -> Option<Taken<R::Carried>>
+        ensures { result ≡ taken_unless (refuses (R.Regime.rules self.now.regime) sheet_score report_irregular self.now.standing [] 1) (takes (R.Regime.rules self.now.regime) sheet_score report_irregular self.now.standing []) }
+    {
+        self.check_notice(1).ok()?;
+        Some(self.notice_taken())
+    }
+
     fn portion_retaken(&self, before: u32, entry: Entry) -> Option<Taken<R::Carried>>
         ensures { result ≡ retaken_by (R.Regime.rules self.now.regime) (Some (enter_portion [])) entry self.now.standing (take before (B.Book.entries self.now.book)) }
     {
-        match self.portion_sample(1) {
-            Ok(units) if can_show(units, entry.tally) => {
-                Some(self.portion_taken(before, units, entry.tally))
-            }
-            _ => None,
-        }
+        let units = self.portion_sample(1).ok()?;
+        let sample = shown(units, entry.tally)?;
+        Some(self.portion_taken(before, sample))
     }
 
     fn lot_retaken(&self, before: u32, entry: Entry) -> Option<Taken<R::Carried>>
         requires { before < length (B.Book.entries self.now.book) }
         ensures { result ≡ retaken_by (R.Regime.rules self.now.regime) (Some (enter_lot entry.lot_size [])) entry self.now.standing (take before (B.Book.entries self.now.book)) }
     {
-        match self.lot_sample(1, entry.lot_size) {
-            Ok(units) if can_show(units, entry.tally) => {
-                Some(self.lot_taken(before, entry.lot_size, units, entry.tally))
-            }
-            _ => None,
-        }
+        let units = self.lot_sample(1, entry.lot_size).ok()?;
+        let sample = shown(units, entry.tally)?;
+        Some(self.lot_taken(before, entry.lot_size, sample))
     }
 
     // The number of the waiting lot; no entry has the number 0.
     fn due_number(&self) -> u32
         ensures { result ≡ due_number self.now.standing.waiting }
     {
-        match self.standing.waiting {
-            Some(lot) => lot.number,
-            None => 0,
-        }
+        self.standing.waiting.map_or(0, |lot| lot.number)
     }
 
     fn second_retaken(&self, before: u32, entry: Entry) -> Option<Taken<R::Carried>>
         ensures { result ≡ retaken_by (R.Regime.rules self.now.regime) (Some (enter_second (due_number self.now.standing.waiting) [])) entry self.now.standing (take before (B.Book.entries self.now.book)) }
     {
-        match self.second_sample(1, self.due_number()) {
-            Ok(units) if can_show(units, entry.tally) => {
-                Some(self.second_taken(before, units, entry.tally))
-            }
-            _ => None,
-        }
+        let units = self.second_sample(1, self.due_number()).ok()?;
+        let sample = shown(units, entry.tally)?;
+        Some(self.second_taken(before, sample))
     }
 
     fn retaken_for_portions(&self, before: u32, entry: Entry) -> Option<Taken<R::Carried>>
         ensures { result ≡ retaken_by (R.Regime.rules self.now.regime) (call_for true entry.kind entry.lot_size (due_number self.now.standing.waiting)) entry self.now.standing (take before (B.Book.entries self.now.book)) }
     {
         match entry.kind {
-            Kind::PeriodOpened => taken_unless(self.open_refusal(1), self.open_taken()),
+            Kind::PeriodOpened => self.open_retaken(),
             Kind::Portion => self.portion_retaken(before, entry),
-            Kind::PeriodEnded => taken_unless(self.end_refusal(1), self.end_taken()),
-            Kind::Relief => taken_unless(self.relief_refusal(before, 1), self.relief_taken()),
-            Kind::IrregularNotice => taken_unless(self.notice_refusal(1), self.notice_taken()),
+            Kind::PeriodEnded => self.end_retaken(),
+            Kind::Relief => self.relief_retaken(before),
+            Kind::IrregularNotice => self.notice_retaken(),
             Kind::Lot | Kind::SecondSample | Kind::Spoiled => None,
         }
     }
@@ -132,8 +131,8 @@ where
         match entry.kind {
             Kind::Lot => self.lot_retaken(before, entry),
             Kind::SecondSample => self.second_retaken(before, entry),
-            Kind::Relief => taken_unless(self.relief_refusal(before, 1), self.relief_taken()),
-            Kind::IrregularNotice => taken_unless(self.notice_refusal(1), self.notice_taken()),
+            Kind::Relief => self.relief_retaken(before),
+            Kind::IrregularNotice => self.notice_retaken(),
             Kind::PeriodOpened | Kind::Portion | Kind::PeriodEnded | Kind::Spoiled => None,
         }
     }

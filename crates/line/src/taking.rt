@@ -1,7 +1,10 @@
 // What each call comes to where it is not refused, and what refuses it, from a line as it stands after the entries up to the number `before`.
-ghost use Rattle.std.specs.Prelude.{◌≡◌, false, [], take, if◌then◌else◌, Some, None};
-ghost use Rattle.runs.specs.History.{is_rejected, open_period, end_period, hand_in, reissue as reissuing, grant_relief, report_irregular};
-ghost use Rattle.runs.specs.Lines.{in_window, bare, fullness, is_due, due_size, slip_of, one_more, refuses, takes, portion_taken};
+ghost use Rattle.std.specs.Prelude.{◌≡◌, false, [], ◌∷◌, not, is_some, nat_le, take, if◌then◌else◌, Some, None};
+ghost use Rattle.std.specs.Option.{ok_or};
+ghost use Rattle.inspection.specs.declared.refusal.Refusal.TheVariants as refused;
+ghost use Rattle.books.specs.Books.{answered};
+ghost use Rattle.runs.specs.History.{first, is_rejected, open_period, end_period, hand_in, reissue as reissuing, grant_relief, report_irregular};
+ghost use Rattle.runs.specs.Lines.{in_window, bare, fullness, is_due, due_size, slip_of, one_more, sample, told, turned_to, refuses, takes, portion_taken};
 ghost use Rattle.runs.specs.Spells.{turned as turning};
 ghost use Rattle.runs.specs.Writing.{sheet_score};
 ghost use Rattle.line.specs.Seeing.{seen_of, seen_refusal};
@@ -9,6 +12,7 @@ ghost use Rattle.line.specs.Doing.{lot_taken_at, lot_awaited, second_taken_at, a
 
 use crate::line::Line;
 use crate::looking::Seen;
+use crate::sample::Sample;
 use books::book::Book;
 use entries::entry::Entry;
 use inspection::kind::Kind;
@@ -33,6 +37,21 @@ fn bare_entry(kind: Kind, status: Status, verdict: Verdict) -> Entry
     }
 }
 
+// A call that writes the entry and gives no slip: it answers the entry's verdict, and the status that it leaves.
+fn written<C: Copy>(entry: Entry, standing: Standing<C>) -> Taken<C>
+    ensures { result ≡ record { reply = told entry.verdict standing.status None; standing = standing; writes = Some entry } }
+{
+    Taken {
+        reply: Reply {
+            verdict: entry.verdict,
+            status: standing.status,
+            slip: None,
+        },
+        standing,
+        writes: Some(entry),
+    }
+}
+
 // Six portions or more make a period full.
 fn period_verdict(period: Option<u32>) -> Verdict
     ensures { result ≡ fullness period }
@@ -46,10 +65,7 @@ fn period_verdict(period: Option<u32>) -> Verdict
 fn one_more(period: Option<u32>) -> Option<u32>
     ensures { result ≡ one_more period }
 {
-    match period {
-        Some(portions) => Some(portions.saturating_add(1)),
-        None => None,
-    }
+    period.map(|portions| portions.saturating_add(1))
 }
 
 fn turned(status: Status) -> Status
@@ -61,107 +77,109 @@ fn turned(status: Status) -> Status
     }
 }
 
+fn check_room(room: u32) -> Result<(), Refusal>
+    ensures { result ≡ answered (first ((nat_le room 0, refused.NoRoom) ∷ []) None) }
+{
+    if room == 0 {
+        return Err(Refusal::NoRoom);
+    }
+    Ok(())
+}
+
 impl<R: Regime, B: Book> Line<R, B>
 where
     R::Carried: Copy,
 {
-    fn unsound(&self) -> Option<Refusal>
-        ensures { result ≡ unsound_refusal self.now.standing.unsound }
+    fn check_sound(&self) -> Result<(), Refusal>
+        ensures { result ≡ answered (unsound_refusal self.now.standing.unsound) }
     {
         match self.standing.unsound {
-            Some(entry) => Some(Refusal::BookUnsound {
+            Some(entry) => Err(Refusal::BookUnsound {
                 entry: entry as usize,
             }),
-            None => None,
+            None => Ok(()),
         }
     }
 
-    pub(crate) fn open_refusal(&self, room: u32) -> Option<Refusal>
-        ensures { result ≡ refuses (R.Regime.rules self.now.regime) sheet_score open_period self.now.standing [] room }
+    pub(crate) fn check_open(&self, room: u32) -> Result<(), Refusal>
+        ensures { result ≡ answered (refuses (R.Regime.rules self.now.regime) sheet_score open_period self.now.standing [] room) }
     {
-        if let Some(refusal) = self.unsound() {
-            return Some(refusal);
-        }
+        self.check_sound()?;
         if self.standing.period.is_some() {
-            return Some(Refusal::PeriodOpenAlready);
+            return Err(Refusal::PeriodOpenAlready);
         }
-        if room == 0 {
-            return Some(Refusal::NoRoom);
-        }
-        None
+        check_room(room)
     }
 
     pub(crate) fn open_taken(&self) -> Taken<R::Carried>
         ensures { result ≡ takes (R.Regime.rules self.now.regime) sheet_score open_period self.now.standing [] }
     {
         let status = self.standing.status;
-        let mut standing = self.standing;
-        standing.period = Some(0);
-        standing.carried = self.regime.starting(status);
-        Taken {
-            reply: Reply {
-                verdict: Verdict::Undecided,
-                status,
-                slip: None,
-            },
+        let standing = Standing {
+            period: Some(0),
+            carried: self.regime.starting(status),
+            ..self.standing
+        };
+        written(
+            bare_entry(Kind::PeriodOpened, status, Verdict::Undecided),
             standing,
-            writes: Some(bare_entry(Kind::PeriodOpened, status, Verdict::Undecided)),
-        }
+        )
     }
 
-    pub(crate) fn end_refusal(&self, room: u32) -> Option<Refusal>
-        ensures { result ≡ refuses (R.Regime.rules self.now.regime) sheet_score end_period self.now.standing [] room }
+    pub(crate) fn check_end(&self, room: u32) -> Result<(), Refusal>
+        ensures { result ≡ answered (refuses (R.Regime.rules self.now.regime) sheet_score end_period self.now.standing [] room) }
     {
-        if let Some(refusal) = self.unsound() {
-            return Some(refusal);
-        }
+        self.check_sound()?;
         if self.standing.period.is_none() {
-            return Some(Refusal::NoPeriodOpen);
+            return Err(Refusal::NoPeriodOpen);
         }
-        if room == 0 {
-            return Some(Refusal::NoRoom);
-        }
-        None
+        check_room(room)
     }
 
     pub(crate) fn end_taken(&self) -> Taken<R::Carried>
         ensures { result ≡ takes (R.Regime.rules self.now.regime) sheet_score end_period self.now.standing [] }
     {
-        let status = self.standing.status;
         let verdict = period_verdict(self.standing.period);
-        let mut standing = self.standing;
-        standing.period = None;
-        Taken {
-            reply: Reply {
-                verdict,
-                status,
-                slip: None,
-            },
+        let standing = Standing {
+            period: None,
+            ..self.standing
+        };
+        written(
+            bare_entry(Kind::PeriodEnded, self.standing.status, verdict),
             standing,
-            writes: Some(bare_entry(Kind::PeriodEnded, status, verdict)),
-        }
+        )
+    }
+
+    // The units of the next sample, of a lot of the size.
+    fn next_units(&self, size: u32) -> Result<u32, Refusal>
+        ensures { result ≡ ok_or (sample (R.Regime.rules self.now.regime) self.now.standing size) refused.LotSizeOutOfRange }
+    {
+        self.regime
+            .sample_units(self.standing.status, size, self.standing.carried)
+            .ok_or(Refusal::LotSizeOutOfRange)
     }
 
     // The units of a portion's sample.
     pub(crate) fn portion_sample(&self, room: u32) -> Result<u32, Refusal>
         ensures { result ≡ portion_sample (R.Regime.rules self.now.regime) self.now.standing room }
     {
-        if let Some(refusal) = self.unsound() {
-            return Err(refusal);
-        }
+        self.check_sound()?;
         if self.standing.period.is_none() {
             return Err(Refusal::NoPeriodOpen);
         }
-        if room == 0 {
-            return Err(Refusal::NoRoom);
-        }
-        let standing = self.standing;
-        match self
-            .regime
-            .sample_units(standing.status, 0, standing.carried)
-        {
-            Some(units) => Ok(units),
-            None => Err(Refusal::LotSizeOutOfRange),
+        check_room(room)?;
+        self.next_units(0)
+    }
+
+    // A new spell with the status.
+    fn new_spell(&self, status: Status) -> Standing<R::Carried>
+        ensures { result ≡ turned_to (R.Regime.rules self.now.regime) status self.now.standing }
+    {
+        Standing {
+            status,
+            spell: 0,
+            carried: self.regime.starting(status),
+            ..self.standing
         }
     }
 
@@ -174,64 +192,62 @@ where
     ) -> Standing<R::Carried>
         ensures { result ≡ article_noted (R.Regime.rules self.now.regime) self.now.standing (take before (B.Book.entries self.now.book)) (is_rejected verdict) carried }
     {
-        let mut standing = self.standing;
         if self.turns(before, verdict) {
-            standing.status = turned(standing.status);
-            standing.spell = 0;
-            standing.carried = self.regime.starting(standing.status);
+            self.new_spell(turned(self.standing.status))
         } else {
-            standing.spell = standing.spell.saturating_add(1);
-            standing.carried = carried;
+            Standing {
+                spell: self.standing.spell.saturating_add(1),
+                carried,
+                ..self.standing
+            }
         }
-        standing
     }
 
-    pub(crate) fn portion_taken(&self, before: u32, units: u32, tally: Tally) -> Taken<R::Carried>
-        ensures { result ≡ portion_taken (R.Regime.rules self.now.regime) units tally ((R.Regime.rules self.now.regime).judged self.now.standing.status 0 tally self.now.standing.carried) self.now.standing (take before (B.Book.entries self.now.book)) }
+    // The judge's verdict on a sample of a lot of the size, and what it carries after it.
+    fn judged(&self, size: u32, tally: Tally) -> (Verdict, R::Carried)
+        ensures { result ≡ (R.Regime.rules self.now.regime).judged self.now.standing.status size tally self.now.standing.carried }
     {
-        let status = self.standing.status;
-        let (verdict, carried) = self.regime.decide(status, 0, tally, self.standing.carried);
-        let mut standing = self.after_article(before, verdict, carried);
-        standing.period = one_more(standing.period);
-        Taken {
-            reply: Reply {
-                verdict,
-                status: standing.status,
-                slip: None,
-            },
-            standing,
-            writes: Some(Entry {
-                kind: Kind::Portion,
-                status,
-                verdict,
-                lot_size: 0,
-                units,
-                tally,
-            }),
-        }
+        self.regime
+            .decide(self.standing.status, size, tally, self.standing.carried)
+    }
+
+    pub(crate) fn portion_taken(&self, before: u32, sample: Sample) -> Taken<R::Carried>
+        ensures { result ≡ portion_taken (R.Regime.rules self.now.regime) sample.units sample.tally ((R.Regime.rules self.now.regime).judged self.now.standing.status 0 sample.tally self.now.standing.carried) self.now.standing (take before (B.Book.entries self.now.book)) }
+    {
+        let Sample { units, tally } = sample;
+        let (verdict, carried) = self.judged(0, tally);
+        let entry = Entry {
+            kind: Kind::Portion,
+            status: self.standing.status,
+            verdict,
+            lot_size: 0,
+            units,
+            tally,
+        };
+        let standing = Standing {
+            period: one_more(self.standing.period),
+            ..self.after_article(before, verdict, carried)
+        };
+        written(entry, standing)
     }
 
     // The units of a lot's first sample.
     pub(crate) fn lot_sample(&self, room: u32, size: u32) -> Result<u32, Refusal>
         ensures { result ≡ lot_sample (R.Regime.rules self.now.regime) self.now.standing room size }
     {
-        if let Some(refusal) = self.unsound() {
-            return Err(refusal);
-        }
+        self.check_sound()?;
+        self.check_no_lot()?;
+        check_room(room)?;
+        self.next_units(size)
+    }
+
+    fn check_no_lot(&self) -> Result<(), Refusal>
+        ensures { result ≡ answered (first ((is_some self.now.standing.waiting, refused.LotAwaits) ∷ []) None) }
+    {
         if self.standing.waiting.is_some() {
             return Err(Refusal::LotAwaits);
         }
-        if room == 0 {
-            return Err(Refusal::NoRoom);
-        }
-        let standing = self.standing;
-        match self
-            .regime
-            .sample_units(standing.status, size, standing.carried)
-        {
-            Some(units) => Ok(units),
-            None => Err(Refusal::LotSizeOutOfRange),
-        }
+        Ok(())
     }
 
     pub(crate) fn relief_taken(&self) -> Taken<R::Carried>
@@ -250,91 +266,57 @@ where
     fn turned_to(&self, kind: Kind, status: Status) -> Taken<R::Carried>
         ensures { result ≡ turned_by (R.Regime.rules self.now.regime) kind status self.now.standing }
     {
-        let mut standing = self.standing;
-        standing.status = status;
-        standing.spell = 0;
-        standing.carried = self.regime.starting(status);
-        Taken {
-            reply: Reply {
-                verdict: Verdict::Undecided,
-                status,
-                slip: None,
-            },
-            standing,
-            writes: Some(bare_entry(kind, self.standing.status, Verdict::Undecided)),
-        }
+        let entry = bare_entry(kind, self.standing.status, Verdict::Undecided);
+        written(entry, self.new_spell(status))
     }
 
-    pub(crate) fn notice_refusal(&self, room: u32) -> Option<Refusal>
-        ensures { result ≡ refuses (R.Regime.rules self.now.regime) sheet_score report_irregular self.now.standing [] room }
+    pub(crate) fn check_notice(&self, room: u32) -> Result<(), Refusal>
+        ensures { result ≡ answered (refuses (R.Regime.rules self.now.regime) sheet_score report_irregular self.now.standing [] room) }
     {
-        if let Some(refusal) = self.unsound() {
-            return Some(refusal);
-        }
-        if self.standing.waiting.is_some() {
-            return Some(Refusal::LotAwaits);
-        }
-        if room == 0 {
-            return Some(Refusal::NoRoom);
-        }
+        self.check_sound()?;
+        self.check_no_lot()?;
+        check_room(room)?;
         if self.standing.status != Status::Reduced {
-            return Some(Refusal::NoticeOffReduced);
+            return Err(Refusal::NoticeOffReduced);
         }
-        None
+        Ok(())
     }
 
-    pub(crate) fn lot_taken(
-        &self,
-        before: u32,
-        size: u32,
-        units: u32,
-        tally: Tally,
-    ) -> Taken<R::Carried>
-        ensures { result ≡ lot_taken_at (R.Regime.rules self.now.regime) before size units tally self.now.standing (take before (B.Book.entries self.now.book)) }
+    pub(crate) fn lot_taken(&self, before: u32, size: u32, sample: Sample) -> Taken<R::Carried>
+        ensures { result ≡ lot_taken_at (R.Regime.rules self.now.regime) before size sample.units sample.tally self.now.standing (take before (B.Book.entries self.now.book)) }
     {
-        let status = self.standing.status;
-        let (verdict, carried) = self
-            .regime
-            .decide(status, size, tally, self.standing.carried);
-        let writes = Some(Entry {
+        let Sample { units, tally } = sample;
+        let (verdict, carried) = self.judged(size, tally);
+        let entry = Entry {
             kind: Kind::Lot,
-            status,
+            status: self.standing.status,
             verdict,
             lot_size: size,
             units,
             tally,
-        });
+        };
         if verdict == Verdict::Awaited {
-            return self.lot_awaited(before, size, carried, writes);
+            return self.lot_awaited(before, carried, entry);
         }
-        let mut standing = self.after_article(before, verdict, carried);
-        standing.waiting = None;
-        Taken {
-            reply: Reply {
-                verdict,
-                status: standing.status,
-                slip: None,
-            },
-            standing,
-            writes,
-        }
+        let standing = Standing {
+            waiting: None,
+            ..self.after_article(before, verdict, carried)
+        };
+        written(entry, standing)
     }
 
     // The lot waits under the number of its entry, and its slip is out.
-    fn lot_awaited(
-        &self,
-        before: u32,
-        size: u32,
-        carried: R::Carried,
-        writes: Option<Entry>,
-    ) -> Taken<R::Carried>
-        ensures { result ≡ lot_awaited (R.Regime.rules self.now.regime) before size carried writes self.now.standing }
+    fn lot_awaited(&self, before: u32, carried: R::Carried, entry: Entry) -> Taken<R::Carried>
+        ensures { result ≡ lot_awaited (R.Regime.rules self.now.regime) before entry.lot_size carried (Some entry) self.now.standing }
     {
         let number = before.saturating_add(1);
-        let mut standing = self.standing;
-        standing.waiting = Some(WaitingLot { number, size });
-        standing.slip_out = true;
-        standing.carried = carried;
+        let size = entry.lot_size;
+        let standing = Standing {
+            waiting: Some(WaitingLot { number, size }),
+            slip_out: true,
+            carried,
+            ..self.standing
+        };
         Taken {
             reply: Reply {
                 verdict: Verdict::Awaited,
@@ -342,7 +324,7 @@ where
                 slip: Some(number),
             },
             standing,
-            writes,
+            writes: Some(entry),
         }
     }
 
@@ -359,145 +341,111 @@ where
     fn waiting_size(&self) -> u32
         ensures { result ≡ due_size self.now.standing.waiting }
     {
-        match self.standing.waiting {
-            Some(lot) => lot.size,
-            None => 0,
-        }
+        self.standing.waiting.map_or(0, |lot| lot.size)
     }
 
     // The number of the waiting lot.
     pub(crate) fn waiting_number(&self) -> Option<u32>
         ensures { result ≡ slip_of self.now.standing.waiting }
     {
-        match self.standing.waiting {
-            Some(lot) => Some(lot.number),
-            None => None,
-        }
+        self.standing.waiting.map(|lot| lot.number)
     }
 
     // The units of the second sample of the lot whose slip has the number.
     pub(crate) fn second_sample(&self, room: u32, number: u32) -> Result<u32, Refusal>
         ensures { result ≡ second_sample (R.Regime.rules self.now.regime) self.now.standing room number }
     {
-        if let Some(refusal) = self.unsound() {
-            return Err(refusal);
-        }
+        self.check_sound()?;
         if !self.has_slip(number) {
             return Err(Refusal::NoLotAwaits);
         }
-        if room == 0 {
-            return Err(Refusal::NoRoom);
-        }
-        let standing = self.standing;
-        match self
-            .regime
-            .sample_units(standing.status, self.waiting_size(), standing.carried)
-        {
-            Some(units) => Ok(units),
-            None => Err(Refusal::LotSizeOutOfRange),
-        }
+        check_room(room)?;
+        self.next_units(self.waiting_size())
     }
 
-    pub(crate) fn second_taken(&self, before: u32, units: u32, tally: Tally) -> Taken<R::Carried>
-        ensures { result ≡ second_taken_at (R.Regime.rules self.now.regime) units tally self.now.standing (take before (B.Book.entries self.now.book)) }
+    pub(crate) fn second_taken(&self, before: u32, sample: Sample) -> Taken<R::Carried>
+        ensures { result ≡ second_taken_at (R.Regime.rules self.now.regime) sample.units sample.tally self.now.standing (take before (B.Book.entries self.now.book)) }
     {
-        let status = self.standing.status;
+        let Sample { units, tally } = sample;
         let size = self.waiting_size();
-        let (verdict, carried) = self
-            .regime
-            .decide(status, size, tally, self.standing.carried);
-        let mut standing = self.after_article(before, verdict, carried);
-        standing.waiting = None;
-        standing.slip_out = false;
-        Taken {
-            reply: Reply {
-                verdict,
-                status: standing.status,
-                slip: None,
-            },
-            standing,
-            writes: Some(Entry {
-                kind: Kind::SecondSample,
-                status,
-                verdict,
-                lot_size: size,
-                units,
-                tally,
-            }),
-        }
+        let (verdict, carried) = self.judged(size, tally);
+        let entry = Entry {
+            kind: Kind::SecondSample,
+            status: self.standing.status,
+            verdict,
+            lot_size: size,
+            units,
+            tally,
+        };
+        let standing = Standing {
+            waiting: None,
+            slip_out: false,
+            ..self.after_article(before, verdict, carried)
+        };
+        written(entry, standing)
     }
 
-    pub(crate) fn hand_in_refusal(&self, number: u32) -> Option<Refusal>
-        ensures { result ≡ refuses (R.Regime.rules self.now.regime) sheet_score (hand_in number) self.now.standing [] 0 }
+    pub(crate) fn check_hand_in(&self, number: u32) -> Result<(), Refusal>
+        ensures { result ≡ answered (refuses (R.Regime.rules self.now.regime) sheet_score (hand_in number) self.now.standing [] 0) }
     {
-        if let Some(refusal) = self.unsound() {
-            return Some(refusal);
-        }
+        self.check_sound()?;
         if !self.has_slip(number) {
-            return Some(Refusal::NoLotAwaits);
+            return Err(Refusal::NoLotAwaits);
         }
-        None
+        Ok(())
     }
 
-    pub(crate) fn reissue_refusal(&self) -> Option<Refusal>
-        ensures { result ≡ refuses (R.Regime.rules self.now.regime) sheet_score reissuing self.now.standing [] 0 }
+    pub(crate) fn check_reissue(&self) -> Result<(), Refusal>
+        ensures { result ≡ answered (refuses (R.Regime.rules self.now.regime) sheet_score reissuing self.now.standing [] 0) }
     {
-        if let Some(refusal) = self.unsound() {
-            return Some(refusal);
-        }
+        self.check_sound()?;
         if self.standing.waiting.is_none() {
-            return Some(Refusal::NoLotAwaits);
+            return Err(Refusal::NoLotAwaits);
         }
         if self.standing.slip_out {
-            return Some(Refusal::SlipIsOut);
+            return Err(Refusal::SlipIsOut);
         }
-        None
+        Ok(())
     }
 
-    // What refuses relief by what is seen of the last window.
-    fn seen_refusal(&self, seen: Seen) -> Option<Refusal>
-        ensures { result ≡ seen_refusal (R.Regime.rules self.now.regime) seen }
+    // Relief by what is seen of the last window.
+    fn check_seen(&self, seen: Seen) -> Result<(), Refusal>
+        ensures { result ≡ answered (seen_refusal (R.Regime.rules self.now.regime) seen) }
     {
         if seen.rejected > self.regime.most_rejected() {
-            return Some(Refusal::TooManyRejected);
+            return Err(Refusal::TooManyRejected);
         }
         let Some(limits) = self.regime.relief_limits(seen.units) else {
-            return Some(Refusal::TooFewUnits);
+            return Err(Refusal::TooFewUnits);
         };
         if seen.critical > limits.critical as u64
             || seen.major > limits.major as u64
             || seen.total > limits.total as u64
         {
-            return Some(Refusal::DefectsAboveLimit);
+            return Err(Refusal::DefectsAboveLimit);
         }
-        None
+        Ok(())
     }
 
-    fn window_refusal(&self, before: u32) -> Option<Refusal>
-        ensures { result ≡ seen_refusal (R.Regime.rules self.now.regime) (seen_of (in_window (R.Regime.rules self.now.regime) self.now.standing (take before (B.Book.entries self.now.book)))) }
+    fn check_window(&self, before: u32) -> Result<(), Refusal>
+        ensures { result ≡ answered (seen_refusal (R.Regime.rules self.now.regime) (seen_of (in_window (R.Regime.rules self.now.regime) self.now.standing (take before (B.Book.entries self.now.book))))) }
     {
         let most = self.regime.window_length().min(self.standing.spell);
-        self.seen_refusal(self.look_back(before, most))
+        self.check_seen(self.look_back(before, most))
     }
 
-    pub(crate) fn relief_refusal(&self, before: u32, room: u32) -> Option<Refusal>
-        ensures { result ≡ refuses (R.Regime.rules self.now.regime) sheet_score grant_relief self.now.standing (take before (B.Book.entries self.now.book)) room }
+    pub(crate) fn check_relief(&self, before: u32, room: u32) -> Result<(), Refusal>
+        ensures { result ≡ answered (refuses (R.Regime.rules self.now.regime) sheet_score grant_relief self.now.standing (take before (B.Book.entries self.now.book)) room) }
     {
-        if let Some(refusal) = self.unsound() {
-            return Some(refusal);
-        }
-        if self.standing.waiting.is_some() {
-            return Some(Refusal::LotAwaits);
-        }
-        if room == 0 {
-            return Some(Refusal::NoRoom);
-        }
+        self.check_sound()?;
+        self.check_no_lot()?;
+        check_room(room)?;
         if self.standing.status != Status::Normal {
-            return Some(Refusal::ReliefOffNormal);
+            return Err(Refusal::ReliefOffNormal);
         }
         if self.standing.spell < self.regime.window_length() {
-            return Some(Refusal::SpellTooShort);
+            return Err(Refusal::SpellTooShort);
         }
-        self.window_refusal(before)
+        self.check_window(before)
     }
 }

@@ -1,6 +1,6 @@
 // The fresh plan book, and what a plan book says of a lot.
 ghost use Rattle.std.specs.Prelude.{◌≡◌, ℕ, true, IfSome, IfOk};
-ghost use Rattle.plans.specs.Finding.{row_fits, row_for, limits_for};
+ghost use Rattle.plans.specs.Finding.{row_fits, row_for, limits_fit, limits_for};
 ghost use Rattle.plans.specs.Fresh.{fresh_row, fresh_lots, fresh_limits};
 ghost use Rattle.plans.specs.Plans.{lot_row_kept};
 
@@ -37,6 +37,12 @@ fn fits_lot(row: &LotRow, status: Status, size: u32) -> bool
     ensures { result ≡ row_fits status size row.now }
 {
     row.status == status && row.lowest_size <= size
+}
+
+fn fits_units(row: &LimitRow, units: u64) -> bool
+    ensures { result ≡ limits_fit units row.now }
+{
+    u64::from(row.lowest_units) <= units
 }
 
 impl PlanBook {
@@ -97,9 +103,7 @@ impl PlanBook {
         let units = units.into();
         let mut found = None;
         for row in &self.limits {
-            found = (u64::from(row.lowest_units) <= units)
-                .then_some(*row)
-                .or(found);
+            found = fits_units(row, units).then_some(*row).or(found);
         }
         found
     }

@@ -1,5 +1,5 @@
 // The eight cases that mark the rules, run.
-use crate::{double_row, tally};
+use crate::{DOUBLE_ROW, tally};
 use inspection::status::Status;
 use inspection::tally::Tally;
 use inspection::verdict::Verdict;
@@ -9,11 +9,8 @@ use std::alloc::Global;
 use std::test::Fail;
 
 // The verdict on the last portion of a stretch of so many clean ones and this one.
-fn after_clean(heap: Global, clean: u8, status: Status, last: Tally) -> Result<Verdict, Fail> {
-    let mut tallies = Vec::with_capacity(heap, clean as usize + 1)?;
-    for _ in 0..clean {
-        tallies.push(Tally::CLEAN)?;
-    }
+fn after_clean(heap: Global, clean: usize, status: Status, last: Tally) -> Result<Verdict, Fail> {
+    let mut tallies = vec![in heap; Tally::CLEAN; clean]?;
     tallies.push(last)?;
     let verdicts = OnLine.judge_stretch(status, &tallies, heap)?;
     Ok(*verdicts.last().ok_or("no verdict")?)
@@ -21,20 +18,14 @@ fn after_clean(heap: Global, clean: u8, status: Status, last: Tally) -> Result<V
 
 #[test]
 fn one_critical_after_clean_portions(rt: HostRuntime) -> Result<(), Fail> {
-    let heap = rt.alloc();
-    let one = tally(1, 0, 0);
-    assert_eq!(rt;
-        after_clean(heap, 6, Status::Normal, one)?,
-        Verdict::Rejected
-    );
-    assert_eq!(rt;
-        after_clean(heap, 7, Status::Normal, one)?,
-        Verdict::Accepted
-    );
-    assert_eq!(rt;
-        after_clean(heap, 0, Status::Normal, one)?,
-        Verdict::Rejected
-    );
+    for (clean, verdict) in [
+        (6, Verdict::Rejected),
+        (7, Verdict::Accepted),
+        (0, Verdict::Rejected),
+    ] {
+        let last = after_clean(rt.alloc(), clean, Status::Normal, tally(1, 0, 0))?;
+        assert_eq!(rt; last, verdict);
+    }
     Ok(())
 }
 
@@ -48,21 +39,16 @@ fn another_critical_is_rejected_again(rt: HostRuntime) -> Result<(), Fail> {
 
 #[test]
 fn major_defects_on_tightened(rt: HostRuntime) -> Result<(), Fail> {
-    let heap = rt.alloc();
-    assert_eq!(rt;
-        after_clean(heap, 0, Status::Tightened, tally(0, 2, 0))?,
-        Verdict::Accepted
-    );
-    assert_eq!(rt;
-        after_clean(heap, 0, Status::Tightened, tally(0, 3, 0))?,
-        Verdict::Rejected
-    );
+    for (major, verdict) in [(2, Verdict::Accepted), (3, Verdict::Rejected)] {
+        let last = after_clean(rt.alloc(), 0, Status::Tightened, tally(0, major, 0))?;
+        assert_eq!(rt; last, verdict);
+    }
     Ok(())
 }
 
 #[test]
 fn a_double_row_awaits_one_critical_and_rejects_three(rt: HostRuntime) {
-    let row = double_row();
-    assert_eq!(rt; judge_first(&row, tally(1, 0, 0)).0, Verdict::Awaited);
-    assert_eq!(rt; judge_first(&row, tally(3, 0, 0)).0, Verdict::Rejected);
+    for (critical, verdict) in [(1, Verdict::Awaited), (3, Verdict::Rejected)] {
+        assert_eq!(rt; judge_first(&DOUBLE_ROW, tally(critical, 0, 0)).0, verdict);
+    }
 }

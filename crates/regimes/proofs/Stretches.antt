@@ -3,12 +3,11 @@ use Rattle.std.proofs.Common.{◌≡◌, ℕ, zero, suc, ◌<◌, ◌≤◌, Boo
 use Rattle.inspection.specs.declared.status.Status.{Status}
 use Rattle.inspection.specs.declared.tally.Tally.{Tally}
 use Rattle.inspection.specs.declared.verdict.Verdict.TheVariants.{Accepted, Rejected, Undecided}
-use Rattle.inspection.specs.Classes.{count_of, some_class}
-use Rattle.regimes.specs.Portions.{cusum_of, value_of, portion_judged, starting_values, values_on, verdicts_on, verdicts_of}
+use Rattle.inspection.specs.Classes.{count_of, some_class, at_class}
+use Rattle.regimes.specs.Portions.{Values, cusum_of, portion_judged, starting_values, values_on, verdicts_on, verdicts_of}
 use Rattle.regimes.specs.Promises.{AllJudgedByRows, ValuesWithin}
 use Rattle.inspection.specs.declared.class.JudgedClass.{JudgedClass}
 use Rattle.inspection.specs.declared.class.JudgedClass.TheVariants.{Critical, Major, Total}
-use Rattle.regimes.specs.declared.cusum.Values.{Values}
 use Rattle.regimes.proofs.Overrun.{flags, overruns_by_value, marked_by_value}
 use Rattle.regimes.proofs.Table.{starts_within}
 use Rattle.regimes.proofs.Tried.{some_true, some_from, none_true, none_from}
@@ -24,7 +23,7 @@ accepted_exactly false = ((λ _. refl), (λ _. refl))
 
 -- whether the value of a class, gone on from v, is flagged at place k
 abbrev flag : Status → Values → List Tally → ℕ → JudgedClass → Bool
-flag s v ts k c = get_or (flags (cusum_of c s) (value_of v c) (map (count_of c) ts)) k false
+flag s v ts k c = get_or (flags (cusum_of c s) (at_class v c) (map (count_of c) ts)) k false
 
 verdict_at : (s : Status) (v : Values) (ts : List Tally) (k : ℕ) → k < length ts → get_or (verdicts_on s v ts) k Undecided ≡ cond (some_class (flag s v ts k)) Rejected Accepted
 verdict_at s v [] k h = absurd (not-suc-le-zero h)
@@ -60,16 +59,16 @@ judged_by_rows s ts = record {
     at : (k : ℕ) → k < length ts → get_or (verdicts_of s ts) k Undecided ≡ cond (here k) Rejected Accepted
     at k h = verdict_at s (starting_values s) ts k h
 
-after_a_portion : (s : Status) (t : Tally) (v : Values) (c : JudgedClass) → value_of (portion_judged s t v).1 c ≤ (cusum_of c s).limit
+after_a_portion : (s : Status) (t : Tally) (v : Values) (c : JudgedClass) → at_class (portion_judged s t v).1 c ≤ (cusum_of c s).limit
 after_a_portion s t v Critical = omega arith
 after_a_portion s t v Major = omega arith
 after_a_portion s t v Total = omega arith
 
-stays : (s : Status) (v : Values) (ts : List Tally) (c : JudgedClass) → ((d : JudgedClass) → value_of v d ≤ (cusum_of d s).limit) → value_of (values_on s v ts) c ≤ (cusum_of c s).limit
+stays : (s : Status) (v : Values) (ts : List Tally) (c : JudgedClass) → ((d : JudgedClass) → at_class v d ≤ (cusum_of d s).limit) → at_class (values_on s v ts) c ≤ (cusum_of c s).limit
 stays s v [] c h = h c
 stays s v (t ∷ ts) c h = stays s (portion_judged s t v).1 ts c (after_a_portion s t v)
 
-starts_stay : (s : Status) (c : JudgedClass) → value_of (starting_values s) c ≤ (cusum_of c s).limit
+starts_stay : (s : Status) (c : JudgedClass) → at_class (starting_values s) c ≤ (cusum_of c s).limit
 starts_stay s Critical = starts_within Critical s
 starts_stay s Major = starts_within Major s
 starts_stay s Total = starts_within Total s

@@ -36,9 +36,11 @@ marked_row s lowest first whole =
       lowest_size = lowest;
       first_sample = first;
       total_sample = whole;
-      critical = record { accept_first = 0; reject_first = 3; accept_both = 3 };
-      major = record { accept_first = 5; reject_first = 7; accept_both = 8 };
-      total = record { accept_first = 5; reject_first = 7; accept_both = 8 };
+      numbers = record {
+        critical = record { accept_first = 0; reject_first = 3; accept_both = 3 };
+        major = record { accept_first = 5; reject_first = 7; accept_both = 8 };
+        total = record { accept_first = 5; reject_first = 7; accept_both = 8 };
+      };
     }
 
 pub record EightCases : Type 0 where

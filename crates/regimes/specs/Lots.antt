@@ -1,39 +1,31 @@
 -- Lots: the row that is for one, and how its samples are judged by it.
-use Rattle.std.specs.Prelude.{ℕ, ◌+◌, ◌-◌, Bool, false, cond, List, Some, None, Option, nat_le}
+use Rattle.std.specs.Prelude.{ℕ, ◌+◌, ◌-◌, Bool, false, cond, List, Some, None, Option, option_map, nat_le}
 use Rattle.inspection.specs.declared.status.Status.{Status}
 use Rattle.inspection.specs.declared.tally.Tally.{Tally}
 use Rattle.inspection.specs.declared.verdict.Verdict.{Verdict}
 use Rattle.inspection.specs.declared.verdict.Verdict.TheVariants.{Accepted, Rejected, Awaited}
 use Rattle.plans.specs.Finding.{row_for, limits_for}
-use Rattle.plans.specs.declared.rows.ClassNumbers.{ClassNumbers}
 use Rattle.plans.specs.declared.rows.LotRow.{LotRow}
 use Rattle.plans.specs.declared.rows.LimitRow.{LimitRow}
-use Rattle.inspection.specs.Classes.{count_of, some_class, each_class}
+use Rattle.inspection.specs.Classes.{count_of, some_class, each_class, at_class}
 use Rattle.regimes.specs.Rules.{Rules}
 use Rattle.inspection.specs.declared.class.JudgedClass.{JudgedClass}
-use Rattle.inspection.specs.declared.class.JudgedClass.TheVariants.{Critical, Major, Total}
-use Rattle.regimes.specs.declared.judge.Limits.{Limits}
 
 -- the row for a lot: none for a lot of more than 9,999,999
 abbrev pub row_of_lot : Status → ℕ → List LotRow → Option LotRow
 row_of_lot s size rows = cond (nat_le size 9999999) (row_for s size rows) None
 
-abbrev pub numbers_of : LotRow → JudgedClass → ClassNumbers
-numbers_of r Critical = r.critical
-numbers_of r Major = r.major
-numbers_of r Total = r.total
-
 abbrev pub added : Tally → Tally → Tally
 added a b = record { critical = a.critical + b.critical; major = a.major + b.major; minor = a.minor + b.minor }
 
 abbrev pub accepts_first : LotRow → Tally → JudgedClass → Bool
-accepts_first r t c = nat_le (count_of c t) (numbers_of r c).accept_first
+accepts_first r t c = nat_le (count_of c t) (at_class r.numbers c).accept_first
 
 abbrev pub rejects_first : LotRow → Tally → JudgedClass → Bool
-rejects_first r t c = nat_le (numbers_of r c).reject_first (count_of c t)
+rejects_first r t c = nat_le (at_class r.numbers c).reject_first (count_of c t)
 
 abbrev pub accepts_both : LotRow → Tally → JudgedClass → Bool
-accepts_both r t c = nat_le (count_of c t) (numbers_of r c).accept_both
+accepts_both r t c = nat_le (count_of c t) (at_class r.numbers c).accept_both
 
 -- the first sample's tally is carried while the second is awaited
 abbrev pub first_judged : LotRow → Tally → Verdict × Option Tally
@@ -55,10 +47,6 @@ lot_units None first = None
 lot_units (Some r) None = Some r.first_sample
 lot_units (Some r) (Some first) = Some (r.total_sample - r.first_sample)
 
-abbrev pub limits_of : Option LimitRow → Option Limits
-limits_of None = None
-limits_of (Some r) = Some (record { critical = r.critical; major = r.major; total = r.total })
-
 -- by the lot rows and the limit rows of a plan
 abbrev pub stationary_rules : List LotRow → List LimitRow → Rules (Option Tally)
 stationary_rules rows limits = record {
@@ -66,7 +54,7 @@ stationary_rules rows limits = record {
   judged = λ s size t first. lot_judged (row_of_lot s size rows) t first;
   starts = λ s. None;
   units = λ s size first. lot_units (row_of_lot s size rows) first;
-  limits = λ units. limits_of (limits_for units limits);
+  limits = λ units. option_map (λ r. r.limits) (limits_for units limits);
   window = 10;
   most_rejected = 0;
 }

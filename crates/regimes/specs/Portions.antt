@@ -6,40 +6,29 @@ use Rattle.inspection.specs.declared.status.Status.TheVariants.{Normal, Tightene
 use Rattle.inspection.specs.declared.tally.Tally.{Tally}
 use Rattle.inspection.specs.declared.verdict.Verdict.{Verdict}
 use Rattle.inspection.specs.declared.verdict.Verdict.TheVariants.{Accepted, Rejected}
-use Rattle.inspection.specs.Classes.{count_of, some_class}
+use Rattle.inspection.specs.Classes.{count_of, some_class, at_class, by_class}
 use Rattle.regimes.specs.Rules.{Rules}
+use Rattle.inspection.specs.declared.class.PerClass.{PerClass}
 use Rattle.inspection.specs.declared.class.JudgedClass.{JudgedClass}
-use Rattle.inspection.specs.declared.class.JudgedClass.TheVariants.{Critical, Major, Total}
 use Rattle.regimes.specs.declared.cusum.Cusum.{Cusum}
-use Rattle.regimes.specs.declared.cusum.Values.{Values}
 
 abbrev pub cusum : ℕ → ℕ → ℕ → Cusum
 cusum t l s = record { tolerance = t; limit = l; start = s }
 
--- in hundredths of a defect: tolerance, limit and start. A row for each class: critical, major, total;
--- in it the statuses normal, tightened, reduced
-abbrev pub table : List (List Cusum)
-table =
-    (cusum 5 95 35 ∷ cusum 10 90 30 ∷ cusum 0 0 0 ∷ [])
-    ∷ (cusum 50 200 100 ∷ cusum 80 160 40 ∷ cusum 50 50 0 ∷ [])
-    ∷ (cusum 200 300 100 ∷ cusum 250 300 100 ∷ cusum 200 100 0 ∷ [])
-    ∷ []
-
-abbrev pub class_place : JudgedClass → ℕ
-class_place Critical = 0
-class_place Major = 1
-class_place Total = 2
+-- in hundredths of a defect: tolerance, limit and start. A row for each class, in it the statuses normal, tightened, reduced
+abbrev pub table : PerClass (List Cusum)
+table = record {
+  critical = cusum 5 95 35 ∷ cusum 10 90 30 ∷ cusum 0 0 0 ∷ [];
+  major = cusum 50 200 100 ∷ cusum 80 160 40 ∷ cusum 50 50 0 ∷ [];
+  total = cusum 200 300 100 ∷ cusum 250 300 100 ∷ cusum 200 100 0 ∷ [];
+}
 
 abbrev pub cusum_of : JudgedClass → Status → Cusum
-cusum_of c s = slice_index_or (slice_index_or table (class_place c) []) (rank s) (cusum 0 0 0)
+cusum_of c s = slice_index_or (at_class table c) (rank s) (cusum 0 0 0)
 
-abbrev pub value_of : Values → JudgedClass → ℕ
-value_of v Critical = v.critical
-value_of v Major = v.major
-value_of v Total = v.total
-
-abbrev pub values_by : (JudgedClass → ℕ) → Values
-values_by f = record { critical = f Critical; major = f Major; total = f Total }
+-- the running value of each class
+abbrev pub Values : Type 0
+Values = PerClass ℕ
 
 -- the value v after a portion with n defects, before it is held. The subtraction stops at 0, and gives the same verdicts and values as one that
 -- goes below it: a value below 0 would become 0, and no limit is below 0
@@ -51,7 +40,7 @@ abbrev pub held : Cusum → ℕ → ℕ
 held q r = min r q.limit
 
 abbrev pub value_reached : Status → Tally → Values → JudgedClass → ℕ
-value_reached s t v c = reached (cusum_of c s) (value_of v c) (count_of c t)
+value_reached s t v c = reached (cusum_of c s) (at_class v c) (count_of c t)
 
 abbrev pub is_over : Status → Tally → Values → JudgedClass → Bool
 is_over s t v c = nat_lt (cusum_of c s).limit (value_reached s t v c)
@@ -61,10 +50,10 @@ value_held s t v c = held (cusum_of c s) (value_reached s t v c)
 
 -- rejected if any value exceeds its limit
 abbrev pub portion_judged : Status → Tally → Values → Verdict × Values
-portion_judged s t v = (cond (some_class (is_over s t v)) Rejected Accepted, values_by (value_held s t v))
+portion_judged s t v = (cond (some_class (is_over s t v)) Rejected Accepted, by_class (value_held s t v))
 
 abbrev pub starting_values : Status → Values
-starting_values s = values_by (λ c. (cusum_of c s).start)
+starting_values s = by_class (λ c. (cusum_of c s).start)
 
 abbrev pub portion_units : Status → ℕ
 portion_units Normal = 25

@@ -6,12 +6,11 @@ use Rattle.inspection.specs.declared.verdict.Verdict.{Verdict}
 use Rattle.inspection.specs.declared.verdict.Verdict.TheVariants.{Accepted, Rejected, Awaited, Undecided}
 use Rattle.plans.specs.Plans.{lot_row_kept}
 use Rattle.plans.specs.declared.rows.LotRow.{LotRow}
-use Rattle.inspection.specs.Classes.{count_of}
-use Rattle.regimes.specs.Portions.{cusum_of, value_of, portion_judged, values_after, verdicts_of}
-use Rattle.regimes.specs.Lots.{numbers_of, lot_judged}
+use Rattle.inspection.specs.Classes.{count_of, at_class}
+use Rattle.regimes.specs.Portions.{Values, cusum_of, portion_judged, values_after, verdicts_of}
+use Rattle.regimes.specs.Lots.{lot_judged}
 use Rattle.regimes.specs.Rows.{JudgedByRows}
 use Rattle.inspection.specs.declared.class.JudgedClass.{JudgedClass}
-use Rattle.regimes.specs.declared.cusum.Values.{Values}
 
 abbrev pub StartsWithin : Type 0
 StartsWithin = (c : JudgedClass) (s : Status) → (cusum_of c s).start ≤ (cusum_of c s).limit
@@ -21,19 +20,19 @@ AllJudgedByRows = (s : Status) (tallies : List Tally) → JudgedByRows s tallies
 
 -- after any portion from any values, and so all through a stretch
 pub record ValuesWithin : Type 0 where
-  pub after_a_portion : (s : Status) (t : Tally) (v : Values) (c : JudgedClass) → value_of (portion_judged s t v).1 c ≤ (cusum_of c s).limit
-  pub in_a_stretch : (s : Status) (tallies : List Tally) (c : JudgedClass) → value_of (values_after s tallies) c ≤ (cusum_of c s).limit
+  pub after_a_portion : (s : Status) (t : Tally) (v : Values) (c : JudgedClass) → at_class (portion_judged s t v).1 c ≤ (cusum_of c s).limit
+  pub in_a_stretch : (s : Status) (tallies : List Tally) (c : JudgedClass) → at_class (values_after s tallies) c ≤ (cusum_of c s).limit
 
 -- a first sample within the accepted numbers of a row, and at the rejected number of some class
 abbrev pub AllAccepted : LotRow → Tally → Type 0
-AllAccepted r t = (c : JudgedClass) → count_of c t ≤ (numbers_of r c).accept_first
+AllAccepted r t = (c : JudgedClass) → count_of c t ≤ (at_class r.numbers c).accept_first
 
 abbrev pub SomeRejected : LotRow → Tally → Type 0
-SomeRejected r t = (c : JudgedClass) × ((numbers_of r c).reject_first ≤ count_of c t)
+SomeRejected r t = (c : JudgedClass) × ((at_class r.numbers c).reject_first ≤ count_of c t)
 
 -- both samples together within the accepted numbers
 abbrev pub BothAccepted : LotRow → Tally → Tally → Type 0
-BothAccepted r first second = (c : JudgedClass) → count_of c first + count_of c second ≤ (numbers_of r c).accept_both
+BothAccepted r first second = (c : JudgedClass) → count_of c first + count_of c second ≤ (at_class r.numbers c).accept_both
 
 pub record FirstJudged (r : LotRow) (t : Tally) (v : Verdict) : Type 0 where
   pub accepts : (v ≡ Accepted) ↔ AllAccepted r t
@@ -62,7 +61,7 @@ pub record NoMore (t u : Tally) : Type 0 where
   pub minor : t.minor ≤ u.minor
 
 abbrev pub NoHigher : Values → Values → Type 0
-NoHigher v w = (c : JudgedClass) → value_of v c ≤ value_of w c
+NoHigher v w = (c : JudgedClass) → at_class v c ≤ at_class w c
 
 -- portion by portion
 abbrev pub NoMoreEach : List Tally → List Tally → Type 0

@@ -1,9 +1,13 @@
 -- What a regime rules, for any kind of carried numbers.
 use Rattle.std.specs.Prelude.{ℕ, Bool, Option}
+use Rattle.inspection.specs.declared.class.PerClass.{PerClass}
 use Rattle.inspection.specs.declared.status.Status.{Status}
 use Rattle.inspection.specs.declared.tally.Tally.{Tally}
 use Rattle.inspection.specs.declared.verdict.Verdict.{Verdict}
-use Rattle.regimes.specs.declared.judge.Limits.{Limits}
+
+-- the most defects that relief allows
+abbrev pub Limits : Type 0
+Limits = PerClass ℕ
 
 pub record Rules (C : Type 0) : Type 0 where
   -- it judges portions, or else lots

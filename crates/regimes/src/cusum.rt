@@ -1,9 +1,8 @@
 // The table of portions: what each class tolerates on each status, and the value that runs along with it.
 ghost use Rattle.std.specs.Prelude.{◌≡◌, ◌≤◌};
-ghost use Rattle.inspection.specs.Statuses.{rank};
-ghost use Rattle.regimes.specs.Portions.{class_place, cusum_of, value_of};
+ghost use Rattle.regimes.specs.Portions.{cusum_of};
 
-use inspection::class::JudgedClass;
+use inspection::class::{JudgedClass, PerClass};
 use inspection::status::Status;
 
 // In hundredths of a defect.
@@ -72,51 +71,14 @@ const TABLE: [[Cusum; 3]; 3] = [
     ],
 ];
 
-fn row_of(class: JudgedClass) -> usize
-    ensures { result ≡ class_place class }
-{
-    match class {
-        JudgedClass::Critical => 0,
-        JudgedClass::Major => 1,
-        JudgedClass::Total => 2,
-    }
-}
-
-fn column_of(status: Status) -> usize
-    ensures { result ≡ rank status }
-{
-    match status {
-        Status::Normal => 0,
-        Status::Tightened => 1,
-        Status::Reduced => 2,
-    }
-}
-
 impl Cusum {
     pub fn of(class: JudgedClass, status: Status) -> Cusum
         ensures entry { result ≡ cusum_of class status }
         ensures within { result.start ≤ result.limit }
     {
-        TABLE[row_of(class)][column_of(status)]
+        TABLE[class as usize][status as usize]
     }
 }
 
 // The running value of each class.
-#[derive(Clone, Copy, PartialEq, Eq, Debug)]
-pub struct Values {
-    pub critical: u32,
-    pub major: u32,
-    pub total: u32,
-}
-
-impl Values {
-    pub fn of(&self, class: JudgedClass) -> u32
-        ensures { result ≡ value_of self.now class }
-    {
-        match class {
-            JudgedClass::Critical => self.critical,
-            JudgedClass::Major => self.major,
-            JudgedClass::Total => self.total,
-        }
-    }
-}
+pub type Values = PerClass<u32>;

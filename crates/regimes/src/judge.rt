@@ -5,17 +5,13 @@ ghost use Rattle.inspection.specs.declared.tally.Tally.{Tally as Counts};
 ghost use Rattle.inspection.specs.declared.verdict.Verdict.{Verdict as Answer};
 ghost use Rattle.regimes.specs.Rules.{Rules};
 
+use inspection::class::PerClass;
 use inspection::status::Status;
 use inspection::tally::Tally;
 use inspection::verdict::Verdict;
 
 // The most defects that relief allows.
-#[derive(Clone, Copy, PartialEq, Eq, Debug)]
-pub struct Limits {
-    pub critical: u32,
-    pub major: u32,
-    pub total: u32,
-}
+pub type Limits = PerClass<u32>;
 
 pub trait Judge {
     // What is carried from one sample to the next.
@@ -36,8 +32,12 @@ pub trait Judge {
 
 // A judge with all else that a line asks of the rules that it works by.
 pub trait Regime: Judge {
+    ghost WINDOW: { ℕ };
+
     // Relief and reduced inspection look at so many articles,
     const WINDOW: u32;
+
+    ghost CAP: { ℕ };
 
     // of which so many may be rejected.
     const CAP: u32;
@@ -45,10 +45,16 @@ pub trait Regime: Judge {
     ghost rules: { Self → Rules Self.Carried };
 
     fn window_length(&self) -> u32
-        ensures { result ≡ (rules self.now).window };
+        ensures { result ≡ (rules self.now).window }
+    {
+        Self::WINDOW
+    }
 
     fn most_rejected(&self) -> u32
-        ensures { result ≡ (rules self.now).most_rejected };
+        ensures { result ≡ (rules self.now).most_rejected }
+    {
+        Self::CAP
+    }
 
     fn judges_portions(&self) -> bool
         ensures { result ≡ (rules self.now).portions };
@@ -74,7 +80,10 @@ pub trait Regime: Judge {
         carried: Self::Carried,
     ) -> (Verdict, Self::Carried)
         ensures judge { result ≡ Self.Judge.judged self.now status lot_size tally carried }
-        ensures rules { result ≡ (rules self.now).judged status lot_size tally carried };
+        ensures rules { result ≡ (rules self.now).judged status lot_size tally carried }
+    {
+        self.judge(status, lot_size, tally, carried)
+    }
 
     // The verdict on a stretch's first portion, or a lot's first sample.
     fn first_verdict(&self, status: Status, lot_size: u32, tally: Tally) -> Verdict
@@ -85,4 +94,11 @@ pub trait Regime: Judge {
         let (verdict, _carried) = self.judge(status, lot_size, tally, self.starting(status));
         verdict
     }
+
+    // The constants are those of the rules, and the judge goes by them.
+    ghost window_ruled: { (regime : Self) → WINDOW ≡ (rules regime).window };
+
+    ghost cap_ruled: { (regime : Self) → CAP ≡ (rules regime).most_rejected };
+
+    ghost judged_as_ruled: { (regime : Self) (s : Stage) (size : ℕ) (t : Counts) (carried : Self.Carried) → Self.Judge.judged regime s size t carried ≡ (rules regime).judged s size t carried };
 }

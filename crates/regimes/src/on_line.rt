@@ -1,11 +1,12 @@
 // The on-line regime: portions of production, judged by three running values.
-ghost use Rattle.std.specs.Prelude.{◌≡◌};
-ghost use Rattle.inspection.specs.Classes.{some_class};
-ghost use Rattle.regimes.specs.Portions.{value_reached, is_over, value_held, values_by, portion_judged, on_line_rules};
+ghost use Rattle.std.specs.Prelude.{◌≡◌, refl};
+ghost use Rattle.inspection.specs.Classes.{by_class, some_class};
+ghost use Rattle.regimes.specs.Portions.{value_reached, is_over, value_held, portion_judged, on_line_rules};
+ghost use Rattle.inspection.specs.declared.class.JudgedClass.TheVariants.{Critical, Major, Total};
 
-use inspection::class::JudgedClass;
 use crate::cusum::{Cusum, Values};
 use crate::judge::{Judge, Limits, Regime};
+use inspection::class::{JudgedClass, PerClass};
 use inspection::status::Status;
 use inspection::tally::Tally;
 use inspection::verdict::Verdict;
@@ -13,50 +14,70 @@ use inspection::verdict::Verdict;
 #[derive(Clone, Copy)]
 pub struct OnLine;
 
-// The value of the class after a portion, before it is held. It stops at 0.
-fn value_reached(status: Status, tally: &Tally, values: &Values, class: JudgedClass) -> u64
-    ensures { result ≡ value_reached status tally.now values.now class }
+// The value of each class, by what gives it.
+fn values_by<F: Fn(JudgedClass) -> u32>(value: F) -> Values
+    requires { F.IsAlwaysCallable value }
+    ensures critical { F.post value Critical result.critical }
+    ensures major { F.post value Major result.major }
+    ensures total { F.post value Total result.total }
 {
-    let cusum = Cusum::of(class, status);
-    (values.of(class) as u64 + 100 * class.count(tally)).saturating_sub(cusum.tolerance as u64)
+    PerClass {
+        critical: value(JudgedClass::Critical),
+        major: value(JudgedClass::Major),
+        total: value(JudgedClass::Total),
+    }
 }
 
-fn is_over(status: Status, tally: &Tally, values: &Values, class: JudgedClass) -> bool
-    ensures { result ≡ is_over status tally.now values.now class }
-{
-    value_reached(status, tally, values, class) > Cusum::of(class, status).limit as u64
+// A portion under judgement, with the values before it.
+#[derive(Clone, Copy)]
+struct Portion {
+    status: Status,
+    tally: Tally,
+    values: Values,
 }
 
-// The value that is carried on: the one reached, held at the limit.
-fn value_held(status: Status, tally: &Tally, values: &Values, class: JudgedClass) -> u32
-    ensures { result ≡ value_held status tally.now values.now class }
-{
-    let limit = Cusum::of(class, status).limit;
-    value_reached(status, tally, values, class).min(limit as u64) as u32
-}
+impl Portion {
+    // The value of the class after the portion, before it is held. It stops at 0.
+    fn reached(&self, class: JudgedClass) -> u64
+        ensures { result ≡ value_reached self.now.status self.now.tally self.now.values class }
+    {
+        let cusum = Cusum::of(class, self.status);
+        let before = u64::from(self.values.of(class));
+        let added = 100 * class.count(&self.tally);
+        (before + added).saturating_sub(u64::from(cusum.tolerance))
+    }
 
-fn some_over(status: Status, tally: &Tally, values: &Values) -> bool
-    ensures { result ≡ some_class (is_over status tally.now values.now) }
-{
-    is_over(status, tally, values, JudgedClass::Critical)
-        || is_over(status, tally, values, JudgedClass::Major)
-        || is_over(status, tally, values, JudgedClass::Total)
-}
+    fn is_over(&self, class: JudgedClass) -> bool
+        ensures { result ≡ is_over self.now.status self.now.tally self.now.values class }
+    {
+        self.reached(class) > u64::from(Cusum::of(class, self.status).limit)
+    }
 
-fn values_held(status: Status, tally: &Tally, values: &Values) -> Values
-    ensures { result ≡ values_by (value_held status tally.now values.now) }
-{
-    Values {
-        critical: value_held(status, tally, values, JudgedClass::Critical),
-        major: value_held(status, tally, values, JudgedClass::Major),
-        total: value_held(status, tally, values, JudgedClass::Total),
+    // The value that is carried on: the one reached, held at the limit.
+    fn held(&self, class: JudgedClass) -> u32
+        ensures { result ≡ value_held self.now.status self.now.tally self.now.values class }
+    {
+        let limit = Cusum::of(class, self.status).limit;
+        self.reached(class).min(u64::from(limit)) as u32
+    }
+
+    fn some_over(&self) -> bool
+        ensures { result ≡ some_class (is_over self.now.status self.now.tally self.now.values) }
+    {
+        JudgedClass::ALL.iter().any(|class| self.is_over(*class))
+    }
+
+    fn values_held(&self) -> Values
+        ensures { result ≡ by_class (value_held self.now.status self.now.tally self.now.values) }
+    {
+        values_by(|class| self.held(class))
     }
 }
 
 impl Judge for OnLine {
     type Carried = Values;
 
-    ghost judged = { λ _ s size t v. portion_judged s t v };
+    ghost judged = { λ _. on_line_rules.judged };
 
     // The values that are compared are the ones reached; they are held afterwards.
     fn judge(
@@ -66,40 +87,37 @@ impl Judge for OnLine {
         tally: Tally,
         carried: Values,
     ) -> (Verdict, Values) {
-        let verdict = if some_over(status, &tally, &carried) {
+        let portion = Portion {
+            status,
+            tally,
+            values: carried,
+        };
+        let verdict = if portion.some_over() {
             Verdict::Rejected
         } else {
             Verdict::Accepted
         };
-        (verdict, values_held(status, &tally, &carried))
+        (verdict, portion.values_held())
     }
 }
 
 impl Regime for OnLine {
+    ghost WINDOW = { 40 };
+
     const WINDOW: u32 = 40;
+
+    ghost CAP = { 1 };
 
     const CAP: u32 = 1;
 
     ghost rules = { λ _. on_line_rules };
-
-    fn window_length(&self) -> u32 {
-        Self::WINDOW
-    }
-
-    fn most_rejected(&self) -> u32 {
-        Self::CAP
-    }
 
     fn judges_portions(&self) -> bool {
         true
     }
 
     fn starting(&self, status: Status) -> Values {
-        Values {
-            critical: Cusum::of(JudgedClass::Critical, status).start,
-            major: Cusum::of(JudgedClass::Major, status).start,
-            total: Cusum::of(JudgedClass::Total, status).start,
-        }
+        values_by(|class| Cusum::of(class, status).start)
     }
 
     fn sample_units(&self, status: Status, lot_size: u32, carried: Values) -> Option<u32> {
@@ -111,20 +129,16 @@ impl Regime for OnLine {
     }
 
     fn relief_limits(&self, units: u64) -> Option<Limits> {
-        Some(Limits {
+        Some(PerClass {
             critical: 0,
             major: 9,
             total: 54,
         })
     }
 
-    fn decide(
-        &self,
-        status: Status,
-        lot_size: u32,
-        tally: Tally,
-        carried: Values,
-    ) -> (Verdict, Values) {
-        self.judge(status, lot_size, tally, carried)
-    }
+    ghost window_ruled = { λ _. refl };
+
+    ghost cap_ruled = { λ _. refl };
+
+    ghost judged_as_ruled = { λ _ s size t carried. refl };
 }

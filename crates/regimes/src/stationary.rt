@@ -1,16 +1,16 @@
 // The stationary regime: lots, judged by one or two samples and the rows of a plan book.
-ghost use Rattle.std.specs.Prelude.{◌≡◌, true, IfSome};
+ghost use Rattle.std.specs.Prelude.{◌≡◌, refl, true, IfSome};
 ghost use Rattle.plans.specs.Plans.{lot_row_kept};
-ghost use Rattle.inspection.specs.Classes.{each_class, some_class};
-ghost use Rattle.regimes.specs.Lots.{row_of_lot, numbers_of, added, accepts_first, rejects_first, accepts_both, first_judged, both_judged, stationary_rules};
+ghost use Rattle.inspection.specs.Classes.{count_of, each_class, some_class};
+ghost use Rattle.regimes.specs.Lots.{row_of_lot, added, accepts_first, rejects_first, accepts_both, first_judged, both_judged, stationary_rules};
 
-use inspection::class::JudgedClass;
 use crate::judge::{Judge, Limits, Regime};
+use inspection::class::JudgedClass;
 use inspection::status::Status;
 use inspection::tally::Tally;
 use inspection::verdict::Verdict;
 use plans::plan_book::PlanBook;
-use plans::rows::{ClassNumbers, LotRow};
+use plans::rows::LotRow;
 
 // No lot is larger.
 pub const LARGEST_LOT: u32 = 9_999_999;
@@ -31,8 +31,7 @@ impl Stationary {
     pub fn into_plan(self) -> PlanBook
         ensures { result ≡ self.plan }
     {
-        let Stationary { plan } = self;
-        plan
+        self.plan
     }
 
     // The row for a lot; none for a size that no lot has.
@@ -47,57 +46,35 @@ impl Stationary {
     }
 }
 
-fn numbers_of(row: &LotRow, class: JudgedClass) -> ClassNumbers
-    ensures { result ≡ numbers_of row.now class }
-{
-    match class {
-        JudgedClass::Critical => row.critical,
-        JudgedClass::Major => row.major,
-        JudgedClass::Total => row.total,
-    }
-}
-
-fn accepts_first(row: &LotRow, tally: &Tally, class: JudgedClass) -> bool
-    ensures { result ≡ accepts_first row.now tally.now class }
-{
-    class.count(tally) <= numbers_of(row, class).accept_first as u64
-}
-
-fn rejects_first(row: &LotRow, tally: &Tally, class: JudgedClass) -> bool
-    ensures { result ≡ rejects_first row.now tally.now class }
-{
-    class.count(tally) >= numbers_of(row, class).reject_first as u64
-}
-
-// Both samples together, added as wide numbers: any two counts have a sum.
-fn accepts_both(row: &LotRow, first: &Tally, second: &Tally, class: JudgedClass) -> bool
-    ensures { result ≡ accepts_both row.now (added first.now second.now) class }
-{
-    class.count(first) + class.count(second) <= numbers_of(row, class).accept_both as u64
-}
-
 fn all_accept_first(row: &LotRow, tally: &Tally) -> bool
     ensures { result ≡ each_class (accepts_first row.now tally.now) }
 {
-    accepts_first(row, tally, JudgedClass::Critical)
-        && accepts_first(row, tally, JudgedClass::Major)
-        && accepts_first(row, tally, JudgedClass::Total)
+    JudgedClass::ALL.iter().all(|class| {
+        class.count(tally) <= u64::from(row.numbers.of(*class).accept_first)
+    })
 }
 
 fn some_reject_first(row: &LotRow, tally: &Tally) -> bool
     ensures { result ≡ some_class (rejects_first row.now tally.now) }
 {
-    rejects_first(row, tally, JudgedClass::Critical)
-        || rejects_first(row, tally, JudgedClass::Major)
-        || rejects_first(row, tally, JudgedClass::Total)
+    JudgedClass::ALL.iter().any(|class| {
+        class.count(tally) >= u64::from(row.numbers.of(*class).reject_first)
+    })
+}
+
+// In both samples together, added as wide numbers: any two counts have a sum.
+fn count_in_both(class: JudgedClass, first: &Tally, second: &Tally) -> u64
+    ensures { result ≡ count_of class (added first.now second.now) }
+{
+    class.count(first) + class.count(second)
 }
 
 fn all_accept_both(row: &LotRow, first: &Tally, second: &Tally) -> bool
     ensures { result ≡ each_class (accepts_both row.now (added first.now second.now)) }
 {
-    accepts_both(row, first, second, JudgedClass::Critical)
-        && accepts_both(row, first, second, JudgedClass::Major)
-        && accepts_both(row, first, second, JudgedClass::Total)
+    JudgedClass::ALL.iter().all(|class| {
+        count_in_both(*class, first, second) <= u64::from(row.numbers.of(*class).accept_both)
+    })
 }
 
 // The first sample, whose tally is carried while a second is awaited.
@@ -126,7 +103,7 @@ pub fn judge_both(row: &LotRow, first: Tally, second: Tally) -> (Verdict, Option
 impl Judge for Stationary {
     type Carried = Option<Tally>;
 
-    ghost judged = { λ b s size t first. (stationary_rules b.plan.lots.items (b.plan.limits.items)).judged s size t first };
+    ghost judged = { λ b. (stationary_rules b.plan.lots.items b.plan.limits.items).judged };
 
     fn judge(
         &self,
@@ -146,19 +123,15 @@ impl Judge for Stationary {
 }
 
 impl Regime for Stationary {
+    ghost WINDOW = { 10 };
+
     const WINDOW: u32 = 10;
+
+    ghost CAP = { 0 };
 
     const CAP: u32 = 0;
 
     ghost rules = { λ b. stationary_rules b.plan.lots.items b.plan.limits.items };
-
-    fn window_length(&self) -> u32 {
-        Self::WINDOW
-    }
-
-    fn most_rejected(&self) -> u32 {
-        Self::CAP
-    }
 
     fn judges_portions(&self) -> bool {
         false
@@ -177,21 +150,12 @@ impl Regime for Stationary {
     }
 
     fn relief_limits(&self, units: u64) -> Option<Limits> {
-        let row = self.plan.wide_relief_limits(units)?;
-        Some(Limits {
-            critical: row.critical,
-            major: row.major,
-            total: row.total,
-        })
+        self.plan.relief_limits(units).map(|row| row.limits)
     }
 
-    fn decide(
-        &self,
-        status: Status,
-        lot_size: u32,
-        tally: Tally,
-        carried: Option<Tally>,
-    ) -> (Verdict, Option<Tally>) {
-        self.judge(status, lot_size, tally, carried)
-    }
+    ghost window_ruled = { λ _. refl };
+
+    ghost cap_ruled = { λ _. refl };
+
+    ghost judged_as_ruled = { λ _ s size t carried. refl };
 }

@@ -19,7 +19,7 @@ use Rattle.runs.specs.History.{Call, open_period, enter_portion, end_period, ent
 use Rattle.plans.specs.Plans.{lot_row_kept}
 use Rattle.regimes.proofs.Samples.{judged_by_numbers}
 use Rattle.regimes.specs.Promises.{FirstJudged, BothJudged}
-use Rattle.regimes.specs.declared.judge.Limits.{Limits}
+use Rattle.regimes.specs.Rules.{Limits}
 use Rattle.runs.specs.Earned.{Ruled, ByArticle}
 use Rattle.regimes.specs.Rules.{Rules}
 use Rattle.runs.specs.declared.standing.Standing.{Standing}

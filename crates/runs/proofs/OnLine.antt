@@ -14,7 +14,7 @@ use Rattle.runs.specs.History.{Call, open_period, enter_portion, end_period, ent
 use Rattle.runs.specs.Earned.{PortionEarned}
 use Rattle.runs.specs.declared.standing.Standing.{Standing}
 use Rattle.runs.specs.Lines.{told, bare, fullness, turns, settled, refuses, takes, step}
-use Rattle.regimes.specs.declared.cusum.Values.{Values}
+use Rattle.regimes.specs.Portions.{Values}
 use Rattle.regimes.specs.Portions.{portion_judged, values_after, on_line_rules}
 use Rattle.runs.specs.Regimes.{no_rows}
 use Rattle.runs.specs.Runs.{ForPortions, fresh}

@@ -10,7 +10,7 @@ use Rattle.plans.specs.declared.rows.LotRow.{LotRow}
 use Rattle.regimes.specs.Lots.{row_of_lot}
 use Rattle.regimes.specs.Portions.{on_line_rules}
 use Rattle.regimes.specs.Rules.{Rules}
-use Rattle.regimes.specs.declared.cusum.Values.{Values}
+use Rattle.regimes.specs.Portions.{Values}
 use Rattle.runs.specs.Earned.{Earned}
 use Rattle.runs.specs.History.{Fixed, slip_out}
 use Rattle.runs.specs.Promises.{on_line, stationary, OfEveryLine, AtEachCall, RefusedAsRuled, AnsweredAsRuled, RejectedOnOverrun, TurnedAsRuled, OfEachRun, BooksTheAccepted, TakenUp, Settled, GoesOnEarned, SetOnABook, Promised}

@@ -9,7 +9,7 @@ use Rattle.plans.specs.Plans.{lot_row_kept}
 use Rattle.plans.specs.declared.rows.LotRow.{LotRow}
 use Rattle.regimes.specs.Portions.{on_line_rules}
 use Rattle.regimes.specs.Rules.{Rules}
-use Rattle.regimes.specs.declared.judge.Limits.{Limits}
+use Rattle.regimes.specs.Rules.{Limits}
 use Rattle.runs.specs.History.{Call, Event, Fixed, slip_out}
 use Rattle.runs.specs.Earned.{Earned}
 use Rattle.runs.specs.Lines.{with_slip}

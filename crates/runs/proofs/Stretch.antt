@@ -7,7 +7,7 @@ use Rattle.inspection.specs.declared.status.Status.TheVariants.{Normal, Tightene
 use Rattle.inspection.specs.declared.tally.Tally.{Tally}
 use Rattle.inspection.specs.declared.verdict.Verdict.TheVariants.{Undecided}
 use Rattle.regimes.specs.Portions.{portion_judged, starting_values, values_on, verdicts_on, values_after, verdicts_of}
-use Rattle.regimes.specs.declared.cusum.Values.{Values}
+use Rattle.regimes.specs.Portions.{Values}
 use Rattle.runs.specs.Spells.{turned}
 
 values_push : (s : Status) (v : Values) (xs : List Tally) (t : Tally) → values_on s v (xs ++ t ∷ []) ≡ (portion_judged s t (values_on s v xs)).1

@@ -82,10 +82,10 @@ abbrev pub numbers : ℕ → ℕ → ℕ → ClassNumbers
 numbers a r b = record { accept_first = a; reject_first = r; accept_both = b }
 
 abbrev pub double_row : LotRow
-double_row = record { status = Normal; lowest_size = 56; first_sample = 10; total_sample = 20; critical = numbers 0 3 3; major = numbers 5 7 8; total = numbers 5 7 8 }
+double_row = record { status = Normal; lowest_size = 56; first_sample = 10; total_sample = 20; numbers = record { critical = numbers 0 3 3; major = numbers 5 7 8; total = numbers 5 7 8 } }
 
 abbrev pub limit_row : LimitRow
-limit_row = record { lowest_units = 1; critical = 0; major = 0; total = 0 }
+limit_row = record { lowest_units = 1; limits = record { critical = 0; major = 0; total = 0 } }
 
 -- one critical defect decides nothing; while the lot waits another is refused; its own slip is taken for the second sample
 abbrev pub worked_lot : List Call
@@ -109,10 +109,10 @@ WorkedLot = ComesTo (run (stationary_rules (double_row ∷ []) (limit_row ∷ []
 -- a single plan that allows one minor defect on normal inspection and none on reduced, with limits for ten such lots
 abbrev pub single_row : Status → ℕ → LotRow
 single_row s most =
-    record { status = s; lowest_size = 1; first_sample = 1; total_sample = 1; critical = numbers 0 1 0; major = numbers 0 1 0; total = numbers most (most + 1) most }
+    record { status = s; lowest_size = 1; first_sample = 1; total_sample = 1; numbers = record { critical = numbers 0 1 0; major = numbers 0 1 0; total = numbers most (most + 1) most } }
 
 abbrev pub ten_limit : LimitRow
-ten_limit = record { lowest_units = 10; critical = 0; major = 0; total = 2 }
+ten_limit = record { lowest_units = 10; limits = record { critical = 0; major = 0; total = 2 } }
 
 abbrev pub single_rules : Rules (Option Tally)
 single_rules = stationary_rules (single_row Normal 1 ∷ single_row Tightened 0 ∷ single_row Reduced 0 ∷ []) (ten_limit ∷ [])

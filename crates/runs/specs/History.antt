@@ -1,5 +1,5 @@
 -- What a list of calls and their answers says, read off that list alone, the newest event first.
-use Rattle.std.specs.Prelude.{ℕ, ◌+◌, ◌-◌, Bool, true, false, cond, not, ◌||◌, List, [], ◌∷◌, ◌++◌, length, drop, is_some, Some, None, Ok, Err, Option, Result, ◌==◌, nat_le, nat_lt}
+use Rattle.std.specs.Prelude.{ℕ, ◌+◌, ◌-◌, Bool, true, false, cond, not, List, [], ◌∷◌, ◌++◌, length, drop, is_some, Some, None, Ok, Err, Option, Result, ◌==◌, nat_le, nat_lt}
 use Rattle.inspection.specs.declared.status.Status.{Status}
 use Rattle.inspection.specs.declared.status.Status.TheVariants.{Normal, Reduced}
 use Rattle.inspection.specs.declared.verdict.Verdict.{Verdict}
@@ -10,13 +10,12 @@ use Rattle.entries.specs.declared.entry.Entry.{Entry}
 use Rattle.inspection.specs.declared.refusal.Refusal.{Refusal}
 use Rattle.inspection.specs.declared.refusal.Refusal.TheVariants.{NoPeriodOpen, PeriodOpenAlready, LotAwaits, NoLotAwaits, SlipIsOut, LotSizeOutOfRange, ReliefOffNormal, SpellTooShort, TooManyRejected, TooFewUnits, DefectsAboveLimit, NoticeOffReduced, NoRoom}
 use Rattle.inspection.specs.declared.class.JudgedClass.{JudgedClass}
-use Rattle.inspection.specs.declared.class.JudgedClass.TheVariants.{Critical, Major, Total}
-use Rattle.inspection.specs.Classes.{count_of}
+use Rattle.inspection.specs.Classes.{count_of, some_class, at_class}
 use Rattle.inspection.specs.Statuses.{same_status}
 use Rattle.plans.specs.declared.rows.LotRow.{LotRow}
 use Rattle.regimes.specs.Lots.{added}
 use Rattle.regimes.specs.Portions.{portion_units}
-use Rattle.regimes.specs.declared.judge.Limits.{Limits}
+use Rattle.regimes.specs.Rules.{Limits}
 use Rattle.runs.specs.declared.standing.Reply.{Reply}
 use Rattle.runs.specs.Spells.{rejections}
 
@@ -117,7 +116,7 @@ defects_of c (a ∷ xs) = count_of c a.tally + defects_of c xs
 
 abbrev pub above : List Article → Option Limits → Bool
 above xs None = false
-above xs (Some l) = (nat_lt l.critical (defects_of Critical xs) || nat_lt l.major (defects_of Major xs)) || nat_lt l.total (defects_of Total xs)
+above xs (Some l) = some_class (λ c. nat_lt (at_class l c) (defects_of c xs))
 
 module _ (f : Fixed) where
   -- an accepted call's entry, with the status before it; hand in and reissue write none

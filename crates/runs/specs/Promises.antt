@@ -7,7 +7,7 @@ use Rattle.plans.specs.declared.plan_book.PlanBook.{PlanBook}
 use Rattle.regimes.specs.Lots.{row_of_lot}
 use Rattle.regimes.specs.Portions.{on_line_rules}
 use Rattle.regimes.specs.Rules.{Rules}
-use Rattle.regimes.specs.declared.cusum.Values.{Values}
+use Rattle.regimes.specs.Portions.{Values}
 use Rattle.runs.specs.declared.standing.Reply.{Reply}
 use Rattle.runs.specs.Earned.{refused_with, Ruled, PortionEarned, Turned, Earned}
 use Rattle.runs.specs.History.{Call, enter_portion, Event, Fixed, article, refusal, slip_out, written}

@@ -7,7 +7,7 @@ use Rattle.plans.specs.declared.rows.LotRow.{LotRow}
 use Rattle.regimes.specs.Lots.{lot_judged, lot_units}
 use Rattle.regimes.specs.Portions.{on_line_rules}
 use Rattle.regimes.specs.Rules.{Rules}
-use Rattle.regimes.specs.declared.judge.Limits.{Limits}
+use Rattle.regimes.specs.Rules.{Limits}
 use Rattle.runs.specs.History.{Fixed}
 
 abbrev pub lots_rules : (Status → ℕ → Option LotRow) → (ℕ → Option Limits) → Rules (Option Tally)

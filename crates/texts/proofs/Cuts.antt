@@ -1,10 +1,9 @@
 -- Where a text and its lines are cut, by places.
 use Rattle.std.proofs.Common.{◌≡◌, ℕ, zero, suc, ◌+◌, ◌-◌, ◌<◌, ◌≤◌, Bool, true, false, cond, eqb, List, [], ◌∷◌, ◌++◌, length, get_or, take, drop, Some, None, Option, sym, refl, ap, ◌∙◌, subst, inl, inr, ⊎_elim, add-one, arith}
-use native.Mathlib.Nat.{sub-zero}
-use Rattle.std.proofs.lemmas.List.{take_rest, take_all, drop_all, length-take, length-drop, length-take-le, get_or-take, take-append-drop, drop_more}
+use Rattle.std.proofs.lemmas.List.{take_rest, take_all, drop_all, length-take, length-take-le, get_or-take, take-append-drop, drop_more}
 use Rattle.std.proofs.lemmas.Bool.{ne_eqb, eq-eqb, eqb-true, cases_lt}
 use Rattle.std.specs.List.{flat_map}
-use Rattle.texts.specs.Texts.{onto, lines, before, parted_by, parted, Free, FirstAt, Unmarked, LineEnd}
+use Rattle.texts.specs.Texts.{onto, lines, before, parted_by, parted, Free, Unmarked, LineEnd}
 use Rattle.texts.specs.Pieces.{Piece, fields, bare, number_of, text_of, by_tab, piece, after, pieces, Whole, Numbered}
 
 free_tail : (x n b : ℕ) (bs : List ℕ) → Free x (suc n) (b ∷ bs) → Free x n bs
@@ -71,14 +70,13 @@ free_front x i bs le f k lt at =
     let short = length-take-le i bs le in
     f k (omega arith) (sym (get_or-take i bs k 0 (omega arith)) ∙ at)
 
-pub taken_whole : (n : ℕ) (bs : List ℕ) → 0 < length bs → Unmarked (length bs) bs → Taken n bs (bare n bs) (take (length bs - length bs) (drop (length bs) bs))
+pub taken_whole : (n : ℕ) (bs : List ℕ) → 0 < length bs → Unmarked (length bs) bs → Taken n bs (bare n bs) []
 taken_whole n [] some f = absurd (omega arith)
-taken_whole n (b ∷ bs) some f =
-    (b ∷ bs, lines_last b bs f.1 ∙ ap (λ r. (b ∷ bs) ∷ lines r) (sym (take_rest (b ∷ bs) (length (b ∷ bs)) ∙ drop_all (length (b ∷ bs)) (b ∷ bs) (omega arith))), sym (ap (by_tab n (b ∷ bs)) (parted_none 9 (b ∷ bs) f.0)))
+taken_whole n (b ∷ bs) some f = (b ∷ bs, lines_last b bs f.1, sym (ap (by_tab n (b ∷ bs)) (parted_none 9 (b ∷ bs) f.0)))
 
-pub taken_bare : (n : ℕ) (bs : List ℕ) (i : ℕ) → i < length bs → Unmarked i bs → get_or bs i 0 ≡ 10 → Taken n bs (bare n (take ((i + 1) - 0) bs)) (take (length bs - (i + 1)) (drop (i + 1) bs))
+pub taken_bare : (n : ℕ) (bs : List ℕ) (i : ℕ) → i < length bs → Unmarked i bs → get_or bs i 0 ≡ 10 → Taken n bs (bare n (take (i + 1) bs)) (take (length bs - (i + 1)) (drop (i + 1) bs))
 taken_bare n bs i lt f at =
-    rw (take_rest bs (i + 1), sub-zero, add-one i)
+    rw (take_rest bs (i + 1), add-one i)
     (take (suc i) bs, lines_cut bs i lt at f.1, sym (ap (by_tab n (take (suc i) bs)) (parted_none 9 (take (suc i) bs) no_tab)))
   where
     no_tab : Free 9 (length (take (suc i) bs)) (take (suc i) bs)
@@ -88,49 +86,29 @@ taken_bare n bs i lt f at =
         ⊎_elim (λ less. f.0 k less (sym same ∙ tab)) (λ last. let is : k ≡ i = omega arith in absurd (omega (arith, same, tab, at, ap (λ j. get_or bs j 0) is))) (cases_lt k i)
 
 -- what follows the tab, up to the end of the line
-pub record Rest (end : List ℕ) (e : ℕ) : Type 0 where
-  pub within : e ≤ length end
-  pub cut : lines (9 ∷ end) ≡ (9 ∷ take e end) ∷ lines (drop e end)
-
-rest_at_feed : (end : List ℕ) (i : ℕ) → FirstAt 10 i end → Rest end (i + 1)
-rest_at_feed end i f =
-    record { within = omega (arith, f.0); cut = rw (add-one i) (ap (onto 9) (lines_cut end i f.0 f.1 f.2)) }
+abbrev pub Rest : List ℕ → ℕ → Type 0
+Rest end e = lines (9 ∷ end) ≡ (9 ∷ take e end) ∷ lines (drop e end)
 
 rest_to_end : (end : List ℕ) → Free 10 (length end) end → Rest end (length end)
-rest_to_end [] f = record { within = omega arith; cut = refl }
+rest_to_end [] f = refl
 rest_to_end (b ∷ bs) f =
     let front = take_all (length (b ∷ bs)) (b ∷ bs) (omega arith) in
     let back = drop_all (length (b ∷ bs)) (b ∷ bs) (omega arith) in
-    record { within = omega arith; cut = rw (front, back) (ap (onto 9) (lines_last b bs f)) }
+    rw (front, back) (ap (onto 9) (lines_last b bs f))
 
 pub rest_at_end : (end : List ℕ) (e : ℕ) → LineEnd end e → Rest end e
-rest_at_end end e (inl h) = subst (Rest end) (sym h.1) (rest_at_feed end h.0 h.2)
+rest_at_end end e (inl h) = subst (Rest end) (sym h.1) (rw (add-one h.0) (ap (onto 9) (lines_cut end h.0 h.2.0 h.2.1 h.2.2)))
 rest_at_end end e (inr h) = subst (Rest end) (sym h.0) (rest_to_end end h.1)
 
-pub taken_fields : (n : ℕ) (bs end : List ℕ) (i e : ℕ) → i < length bs → Unmarked i bs → get_or bs i 0 ≡ 9 → end ≡ drop (i + 1) bs → Rest end e → Taken n bs (fields n (take (i - 0) bs) (take (e - 0) end)) (take (length end - e) (drop e end))
+pub taken_fields : (n : ℕ) (bs end : List ℕ) (i e : ℕ) → i < length bs → Unmarked i bs → get_or bs i 0 ≡ 9 → end ≡ drop (i + 1) bs → Rest end e → Taken n bs (fields n (take i bs) (take e end)) (take (length end - e) (drop e end))
 taken_fields n bs end i e lt f at is h =
     let first = take i bs in
     let split : bs ≡ first ++ 9 ∷ end = sym (take-append-drop i bs) ∙ ap (λ r. first ++ r) (drop_more bs i 0 lt ∙ ap (λ b. b ∷ drop (i + 1) bs) at ∙ ap (λ r. 9 ∷ r) (sym is)) in
-    rw (take_rest end e, sub-zero)
-    (rw sub-zero (
+    rw (take_rest end e) (
       first ++ 9 ∷ take e end,
-      ap lines split ∙ lines_over first (9 ∷ end) (9 ∷ take e end) (lines (drop e end)) (free_front 10 i bs (omega arith) f.1) h.cut,
+      ap lines split ∙ lines_over first (9 ∷ end) (9 ∷ take e end) (lines (drop e end)) (free_front 10 i bs (omega arith) f.1) h,
       sym (ap (by_tab n (first ++ 9 ∷ take e end)) (parted_field first (take e end) (free_front 9 i bs (omega arith) f.0))),
-    ))
-
-pub next_taken : (n : ℕ) (bs : List ℕ) (p : Piece) (rest : List ℕ) → Taken (n + 1) bs p rest → after n (lines bs) ≡ p ∷ after (n + 1) (lines rest)
-next_taken n bs p rest t = ap (after n) t.1 ∙ ap (λ q. q ∷ after (n + 1) (lines rest)) (sym t.2)
-
--- what follows a line is shorter
-pub shorter : (bs : List ℕ) (e : ℕ) → 0 < e → e ≤ length bs → length (take (length bs - e) (drop e bs)) < length bs
-shorter bs e some within = simp (take_rest, length-drop) (omega arith)
-
-pub no_longer : (bs : List ℕ) (e : ℕ) → length (take (length bs - e) (drop e bs)) ≤ length bs
-no_longer bs e = simp (take_rest, length-drop) (omega arith)
-
-pub no_line : (n : ℕ) (bs : List ℕ) → length bs ≡ 0 → after n (lines bs) ≡ []
-no_line n [] e = refl
-no_line n (b ∷ bs) e = absurd (omega arith)
+    )
 
 -- the text of a piece is its line
 pub text_of_piece : (n : ℕ) (bs : List ℕ) → text_of (piece n bs) ≡ bs
@@ -141,8 +119,7 @@ text_of_piece n bs = by (parted bs) refl
     by (Some p) e = parted_whole bs p.0 p.1 e
 
 joined_onto : (b : ℕ) (ls : List (List ℕ)) → flat_map (λ l. l) (onto b ls) ≡ b ∷ flat_map (λ l. l) ls
-joined_onto b [] = refl
-joined_onto b (l ∷ ls) = refl
+joined_onto b ls = grind arith
 
 joined_lines : (bs : List ℕ) → flat_map (λ l. l) (lines bs) ≡ bs
 joined_lines [] = refl
@@ -160,8 +137,7 @@ pub whole : (text : List ℕ) → Whole text
 whole text = joined_after 0 (lines text) ∙ joined_lines text
 
 number_of_piece : (n : ℕ) (bs : List ℕ) (o : Option (List ℕ × List ℕ)) → number_of (by_tab n bs o) ≡ n
-number_of_piece n bs None = refl
-number_of_piece n bs (Some p) = refl
+number_of_piece n bs o = grind arith
 
 numbered_after : (n : ℕ) (ls : List (List ℕ)) (k : ℕ) (p : Piece) → k < length (after n ls) → number_of (get_or (after n ls) k p) ≡ n + k + 1
 numbered_after n [] k p lt = absurd (omega arith)
@@ -171,22 +147,9 @@ numbered_after n (l ∷ ls) (suc k) p lt = numbered_after (n + 1) ls k p (omega 
 pub numbered : (text : List ℕ) → Numbered text
 numbered text k p lt = numbered_after 0 (lines text) k p lt ∙ omega arith
 
-few_onto : (b : ℕ) (ls : List (List ℕ)) → length (onto b ls) ≤ length ls + 1
-few_onto b [] = omega arith
-few_onto b (l ∷ ls) = omega arith
-
-few_lines : (bs : List ℕ) → length (lines bs) ≤ length bs
-few_lines [] = omega arith
-few_lines (b ∷ bs) = by (eqb b 10) (few_lines bs)
-  where
-    by : (t : Bool) → length (lines bs) ≤ length bs → length (cond t ((b ∷ []) ∷ lines bs) (onto b (lines bs))) ≤ suc (length bs)
-    by true h = omega arith
-    by false h = omega (arith, few_onto b (lines bs))
-
-length_after : (n : ℕ) (ls : List (List ℕ)) → length (after n ls) ≡ length ls
-length_after n [] = refl
-length_after n (l ∷ ls) = ap suc (length_after (n + 1) ls)
-
--- a text has no more lines than bytes
-pub few_pieces : (text : List ℕ) → length (pieces text) ≤ length text
-few_pieces text = omega (arith, length_after 0 (lines text), few_lines text)
+-- the first of the pieces that follow n lines has the next number, and the others follow it
+pub after_next : (n : ℕ) (ls : List (List ℕ)) (p : Piece) (ps : List Piece) → after n ls ≡ p ∷ ps → (number_of p ≡ n + 1) × ((ms : List (List ℕ)) × (ps ≡ after (n + 1) ms))
+after_next n [] p ps e = cc
+after_next n (l ∷ ls) p ps e =
+    let first : piece (n + 1) l ≡ p = cc in
+    (ap number_of (sym first) ∙ number_of_piece (n + 1) l (parted l), (ls, cc))

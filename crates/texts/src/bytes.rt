@@ -6,10 +6,5 @@ ghost use Rattle.texts.specs.Texts.{Free, FirstAt};
 pub fn position(bytes: &[u8], byte: u8) -> Option<usize>
     ensures { MatchOption result (Free byte (length bytes.now) bytes.now) (λ i. FirstAt byte i bytes.now) }
 {
-    for (i, b) in bytes.iter().enumerate() {
-        if *b == byte {
-            return Some(i);
-        }
-    }
-    None
+    bytes.iter().position(|b| *b == byte)
 }

@@ -1,19 +1,20 @@
 -- Scoring in one pass: what is left of the sheet gives the score, from the running one.
 use Rattle.std.proofs.Common.{◌≡◌, ℕ, ◌+◌, ◌-◌, ◌*◌, ◌<◌, ◌≤◌, Bool, true, false, cond, ◌&&◌, ◌||◌, eqb, ltb, ◌⊎◌, List, [], ◌∷◌, IfOk, Some, None, Ok, Err, Option, Result, sym, refl, ap, ◌∙◌, subst, inl, inr, ⊎_elim, arith}
 use Rattle.std.proofs.lemmas.Bool.{ltb-false, and_cases, or_from, or_parts, eqb-false, ne_eqb, and_left, and_right, cases_eq}
+use Rattle.std.proofs.lemmas.Bool.Decides.{nat_tests}
 use Rattle.inspection.specs.Tallies.{total_of}
 use Rattle.inspection.specs.declared.refusal.Refusal.{Refusal}
 use Rattle.inspection.specs.declared.refusal.Refusal.TheVariants.{UnitAboveSample, PairFalls}
 use Rattle.inspection.specs.declared.tally.Tally.{Tally}
 use Rattle.worksheet.specs.declared.defect.Defect.{Defect}
 use Rattle.worksheet.specs.declared.scoring.Running.{Running}
-use Rattle.worksheet.specs.Defects.{Keyed, Pair, pair, same_pair, related, falls}
-use Rattle.worksheet.specs.Pieces.{Piece, number_of, defect_of, pieces}
+use Rattle.texts.specs.Pieces.{Piece, number_of, pieces}
+use Rattle.worksheet.specs.Defects.{Keyed, Pair, pair, same_pair, related, falls, defect_of}
 use Rattle.worksheet.specs.Promises.{AtMostNine}
 use Rattle.worksheet.specs.Running.{counted, next_line, entered, closed}
 use Rattle.worksheet.specs.Scores.{falls_after, fault_of, fault, or_else, first_bad, said, defects, occurs, tally_of, unless, score_of}
 use Rattle.worksheet.proofs.Tallying.{clean, plus, plus_clean, counted_plus, counted_clean, total_counted, pair_same, merged, tally_merged, tally_fresh}
-use Rattle.worksheet.proofs.Written.{never, piece_back}
+use Rattle.worksheet.proofs.Written.{piece_back}
 
 abbrev pub turn : Option Refusal → Option Defect → (Defect → Result Tally Refusal) → Result Tally Refusal
 turn (Some r) o k = Err r
@@ -32,20 +33,10 @@ abbrev Below : Pair → Defect → Type 0
 Below q d = (q.0 < d.unit) ⊎ ((q.0 ≡ d.unit) × (q.1 < d.cause))
 
 below_later : (q : Pair) (d e : Defect) → Below q d → falls e d ≡ false → Below q e
-below_later q d e (inl lt) h =
-    let parts = or_parts (ltb e.unit d.unit) _ h in
-    inl (omega (arith, ltb-false e.unit d.unit parts.0))
-below_later q d e (inr lt) h =
-    let parts = or_parts (ltb e.unit d.unit) _ h in
-    let up = ltb-false e.unit d.unit parts.0 in
-    ⊎_elim
-    (λ (same : d.unit ≡ e.unit). inr (lt.0 ∙ same, ⊎_elim (λ n. absurd (eqb-false e.unit d.unit n (sym same))) (λ n. omega (arith, lt.1, ltb-false e.cause d.cause n)) (and_cases (eqb e.unit d.unit) _ parts.1)))
-    (λ other. inl (omega (arith, lt.0, other)))
-    (cases_eq d.unit e.unit)
+below_later q d e lt h = grind (arith, nat_tests)
 
 below_apart : (q : Pair) (d : Defect) → Below q d → same_pair (pair d) q ≡ false
-below_apart q d (inl lt) = and_left _ _ (ne_eqb d.unit q.0 (λ e. omega arith))
-below_apart q d (inr lt) = and_right _ _ (ne_eqb d.cause q.1 (λ e. omega (arith, lt.1)))
+below_apart q d lt = grind (arith, nat_tests)
 
 abbrev wrong : ℕ → Bool → Bool → Option Refusal
 wrong n x y = cond x (Some (UnitAboveSample n)) (cond y (Some (PairFalls n)) None)
@@ -58,17 +49,16 @@ pub record Sound (units : ℕ) (last o : Option Defect) : Type 0 where
   pub on : falls_after last says ≡ false
 
 pub sound : (units : ℕ) (last : Option Defect) (n : ℕ) (o : Option Defect) → fault_of units last n o ≡ None → Sound units last o
-sound units last n None h = never (sym h)
+sound units last n None h = cc
 sound units last n (Some d) h = by (ltb units d.unit) refl (falls_after last d) refl h
   where
     by : (x : Bool) → ltb units d.unit ≡ x → (y : Bool) → falls_after last d ≡ y → wrong n x y ≡ None → Sound units last (Some d)
-    by true u y f h = never (sym h)
-    by false u true f h = never (sym h)
+    by true u y f h = cc
+    by false u true f h = cc
     by false u false f h = record { says = d; is = refl; within = ltb-false units d.unit u; on = f }
 
 or_else_none : (a b : Option Refusal) → or_else a b ≡ None → (a ≡ None) × (b ≡ None)
-or_else_none None b h = (refl, h)
-or_else_none (Some r) b h = never (sym h)
+or_else_none a b h = grind arith
 
 -- on lines that do not fall, what comes before a line's pair does not come after it
 never_again : (units : ℕ) (d : Defect) (ps : List Piece) (q : Pair) → Below q d → first_bad units (Some d) ps ≡ None → occurs q (defects ps) ≡ false
@@ -86,13 +76,7 @@ falls_like d b c e = ap (λ (q : Pair). ltb d.unit q.0 || (eqb d.unit q.0 && ltb
 
 -- of two lines that are not related and do not fall, the first pair comes before the second
 rises : (b d : Defect) → related b d ≡ false → falls d b ≡ false → Below (pair b) d
-rises b d r f =
-    let parts = or_parts (ltb d.unit b.unit) _ f in
-    let up = ltb-false d.unit b.unit parts.0 in
-    ⊎_elim
-    (λ (same : b.unit ≡ d.unit). inr (same, ⊎_elim (λ n. absurd (eqb-false d.unit b.unit n (sym same))) (λ n. let on = ltb-false d.cause b.cause n in ⊎_elim (λ n. absurd (eqb-false b.unit d.unit n same)) (λ n. let ne = eqb-false b.cause d.cause n in omega arith) (and_cases (eqb b.unit d.unit) _ r)) (and_cases (eqb d.unit b.unit) _ parts.1)))
-    (λ other. inl (omega (arith, other)))
-    (cases_eq b.unit d.unit)
+rises b d r f = grind (arith, nat_tests)
 
 abbrev GoesOn : ℕ → List Piece → Type 0
 GoesOn units ps =
@@ -165,13 +149,8 @@ Fit units t (Some b) = Keyed b × (b.unit ≤ units) × (total_of t ≤ place b)
 abbrev pub Fits : ℕ → Running → Type 0
 Fits units s = Fit units s.tally s.last
 
-pub fit_small : (units : ℕ) (t : Tally) (last : Option Defect) → Fit units t last → total_of t ≤ 99999
-fit_small units t None h = omega (arith, h)
-fit_small units t (Some b) h = omega (arith, h.2, h.0.unit_most, h.0.cause_most)
-
 places_rise : (b d : Defect) → Keyed b → Keyed d → Below (pair b) d → place b + 1 ≤ place d
-places_rise b d k l (inl lt) = omega (arith, k.unit_least, k.cause_most, l.cause_least)
-places_rise b d k l (inr lt) = omega (arith, lt.0, lt.1, k.cause_least)
+places_rise b d k l lt = grind arith
 
 pub fit_next : (units : ℕ) (t : Tally) (last : Option Defect) (d : Defect) → Fit units t last → Keyed d → d.unit ≤ units → falls_after last d ≡ false → Fits units (entered t last d)
 fit_next units t None d h k within on = (k, within, omega (arith, h))
@@ -184,8 +163,7 @@ fit_next units t (Some b) d h k within on = by (related b d) refl
     by false z = (k, within, omega (arith, total_counted t b.class, h.2, places_rise b d h.0 k (rises b d z on)))
 
 pub fit_closed : (units : ℕ) (t : Tally) (last : Option Defect) → Fit units t last → total_of (closed t last) ≤ 9 * units
-fit_closed units t None h = omega (arith, h)
-fit_closed units t (Some b) h = omega (arith, total_counted t b.class, h.2, h.1, h.0.unit_least, h.0.cause_most)
+fit_closed units t last h = grind (arith, total_counted)
 
 -- one line more, which has no fault
 pub going_more : (units : ℕ) (s u : Running) (ps qs : List Piece) (p : Piece) (d : Defect) (r : Result Tally Refusal) → ps ≡ p ∷ qs → fault units s.last p ≡ None → defect_of p ≡ Some d → u ≡ entered s.tally s.last d → Fits units s → going units s ps ≡ r → Fits units u × (going units u qs ≡ r)
@@ -199,13 +177,6 @@ going_more units s u ps qs p d r split fine says is fits h =
           ∙ sym (ap (going units s) split)
           ∙ h,
     )
-
-pub going_ends : (units : ℕ) (s : Running) (ps : List Piece) (r : Result Tally Refusal) → ps ≡ [] → going units s ps ≡ r → r ≡ Ok (closed s.tally s.last)
-going_ends units s ps r e h = sym h ∙ ap (going units s) e
-
-pub going_stops : (units : ℕ) (s : Running) (ps qs : List Piece) (p : Piece) (x : Refusal) (r : Result Tally Refusal) → ps ≡ p ∷ qs → fault units s.last p ≡ Some x → going units s ps ≡ r → r ≡ Err x
-going_stops units s ps qs p x r split bad h =
-    sym h ∙ ap (going units s) split ∙ ap (λ o. turn o (defect_of p) (λ d. going units (entered s.tally s.last d) qs)) bad
 
 -- from a running tally that fits, the score has at most nine defects a unit
 going_few : (units : ℕ) (s : Running) (ps : List Piece) → Fits units s → IfOk (going units s ps) (λ t. total_of t ≤ 9 * units)

@@ -1,4 +1,3 @@
-pub mod Cuts
 pub mod Written
 pub mod Tallying
 pub mod Going

@@ -6,6 +6,7 @@ use Rattle.std.proofs.lemmas.List.{length-append, length-replicate}
 use Rattle.std.proofs.lemmas.Str.Parse.{not_in_digits}
 use Rattle.std.proofs.lemmas.Bool.{ne_eqb, le-ltb, cond-false, cases_lt, or_from, and_left, and_right}
 use Rattle.std.specs.List.{flat_map}
+use Rattle.std.proofs.lemmas.Bool.Decides.{nat_tests}
 use Rattle.inspection.specs.Letters.{class_letter}
 use Rattle.inspection.specs.Tallies.{total_of}
 use Rattle.inspection.specs.declared.class.DefectClass.{DefectClass}
@@ -13,22 +14,20 @@ use Rattle.inspection.specs.declared.class.DefectClass.TheVariants.{Critical, Ma
 use Rattle.inspection.specs.declared.tally.Tally.{Tally}
 use Rattle.worksheet.specs.declared.defect.Defect.{Defect}
 use Rattle.worksheet.specs.declared.scoring.Running.{Running}
-use Rattle.worksheet.specs.Defects.{Keyed, written, related, falls}
-use Rattle.worksheet.specs.Pieces.{Piece, number_of, defect_of, piece, after}
+use Rattle.texts.specs.Pieces.{Piece, number_of, piece, after}
+use Rattle.texts.specs.Texts.{lines}
+use Rattle.texts.proofs.Cuts.{lines_over}
+use Rattle.worksheet.specs.Defects.{Keyed, written, related, falls, defect_of}
 use Rattle.worksheet.specs.Promises.{SomeSheetShows}
 use Rattle.worksheet.specs.Running.{counted, entered}
 use Rattle.worksheet.specs.Scores.{fault_of, falls_after}
-use Rattle.worksheet.specs.Texts.{lines}
-use Rattle.worksheet.proofs.Cuts.{lines_over}
 use Rattle.worksheet.proofs.Going.{turn, going, start, goes_whole}
 use Rattle.decimals.proofs.Reading.{own}
 use Rattle.worksheet.proofs.Tallying.{clean}
 use Rattle.worksheet.proofs.Written.{line_forth, written_keyed}
 
 letter_no_feed : (c : DefectClass) → eqb (class_letter c) 10 ≡ false
-letter_no_feed Critical = refl
-letter_no_feed Major = refl
-letter_no_feed Minor = refl
+letter_no_feed c = grind arith
 
 abbrev ending : Defect → List ℕ
 ending d = 9 ∷ (48 + d.cause) ∷ 9 ∷ class_letter d.class ∷ 10 ∷ []
@@ -71,18 +70,10 @@ next_rises k =
     ⊎_elim (λ up. inl up) (λ stay. inr (omega arith, omega arith)) (cases_lt (k / 9) ((k + 1) / 9))
 
 not_falling : (k : ℕ) (a b : DefectClass) → falls (at_place (k + 1) b) (at_place k a) ≡ false
-not_falling k a b =
-    ⊎_elim
-    (λ up. or_from _ _ (le-ltb ((k + 1) / 9 + 1) (k / 9 + 1) (omega arith)) (and_left _ _ (ne_eqb ((k + 1) / 9 + 1) (k / 9 + 1) (λ e. omega arith))))
-    (λ on. or_from _ _ (le-ltb ((k + 1) / 9 + 1) (k / 9 + 1) (omega (arith, on.0))) (and_right _ _ (le-ltb ((k + 1) % 9 + 1) (k % 9 + 1) (omega (arith, on.1)))))
-    (next_rises k)
+not_falling k a b = grind (arith, nat_tests, next_rises k)
 
 not_related : (k : ℕ) (a b : DefectClass) → related (at_place k a) (at_place (k + 1) b) ≡ false
-not_related k a b =
-    ⊎_elim
-    (λ up. and_left _ _ (ne_eqb (k / 9 + 1) ((k + 1) / 9 + 1) (λ e. omega arith)))
-    (λ on. and_right _ _ (ne_eqb (k % 9 + 1) ((k + 1) % 9 + 1) (λ e. omega (arith, on.1))))
-    (next_rises k)
+not_related k a b = grind (arith, nat_tests, next_rises k)
 
 -- defects of these classes, one place after another
 abbrev row : ℕ → List DefectClass → List Defect

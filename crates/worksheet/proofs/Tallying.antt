@@ -23,27 +23,19 @@ same_tally : (a b c x y z : ℕ) → a ≡ x → b ≡ y → c ≡ z → ◌≡�
 same_tally a b c x y z p q r = λ i. record { critical = p i; major = q i; minor = r i }
 
 pub plus_clean : (t : Tally) → plus clean t ≡ t
-plus_clean t = same_tally _ _ _ _ _ _ (zero-add t.critical) (zero-add t.major) (zero-add t.minor)
+plus_clean t = grind arith
 
 pub counted_plus : (t u : Tally) (c : DefectClass) → plus (counted t c) u ≡ plus t (counted u c)
-counted_plus t u Critical = same_tally _ _ _ _ _ _ (omega arith) refl refl
-counted_plus t u Major = same_tally _ _ _ _ _ _ refl (omega arith) refl
-counted_plus t u Minor = same_tally _ _ _ _ _ _ refl refl (omega arith)
+counted_plus t u c = grind arith
 
 pub counted_clean : (t : Tally) (c : DefectClass) → plus t (counted clean c) ≡ counted t c
-counted_clean t Critical = same_tally _ _ _ _ _ _ (omega arith) (omega arith) (omega arith)
-counted_clean t Major = same_tally _ _ _ _ _ _ (omega arith) (omega arith) (omega arith)
-counted_clean t Minor = same_tally _ _ _ _ _ _ (omega arith) (omega arith) (omega arith)
+counted_clean t c = grind arith
 
 pub total_counted : (t : Tally) (c : DefectClass) → total_of (counted t c) ≡ total_of t + 1
-total_counted t Critical = omega arith
-total_counted t Major = omega arith
-total_counted t Minor = omega arith
+total_counted t c = grind arith
 
 one_by_class : (c : DefectClass) (t : Tally) → ◌≡◌ {A = Tally} (record { critical = cond (is_critical c) 1 0 + t.critical; major = cond (is_major c) 1 0 + t.major; minor = cond (is_minor c) 1 0 + t.minor }) (counted t c)
-one_by_class Critical t = same_tally _ _ _ _ _ _ (omega arith) (omega arith) (omega arith)
-one_by_class Major t = same_tally _ _ _ _ _ _ (omega arith) (omega arith) (omega arith)
-one_by_class Minor t = same_tally _ _ _ _ _ _ (omega arith) (omega arith) (omega arith)
+one_by_class c t = grind arith
 
 by_class_cons : (f : Pair → DefectClass) (q : Pair) (qs : List Pair) → by_class f (q ∷ qs) ≡ counted (by_class f qs) (f q)
 by_class_cons f q qs =
@@ -62,33 +54,19 @@ by_class_agrees f g (q ∷ qs) h =
     ∙ sym (by_class_cons g q qs)
 
 worse_minor : (c : DefectClass) → worse c Minor ≡ c
-worse_minor Critical = refl
-worse_minor Major = refl
-worse_minor Minor = refl
+worse_minor c = grind arith
 
 worse_assoc : (a b c : DefectClass) → worse a (worse b c) ≡ worse (worse a b) c
-worse_assoc Critical b c = refl
-worse_assoc Major Critical c = refl
-worse_assoc Major Major Critical = refl
-worse_assoc Major Major Major = refl
-worse_assoc Major Major Minor = refl
-worse_assoc Major Minor Critical = refl
-worse_assoc Major Minor Major = refl
-worse_assoc Major Minor Minor = refl
-worse_assoc Minor b c = refl
+worse_assoc a b c = grind arith
 
 pub pair_flip : (p q : Pair) → same_pair p q ≡ false → same_pair q p ≡ false
 pair_flip p q e = grind (arith, nat_tests)
 
 pub pair_same : (p q : Pair) → same_pair p q ≡ true → p ≡ q
-pair_same p q e =
-    let parts = and_parts (eqb p.0 q.0) _ e in
-    let unit = eqb-true p.0 q.0 parts.0 in
-    let cause = eqb-true p.1 q.1 parts.1 in
-    λ i. (unit i, cause i)
+pair_same p q e = grind (arith, nat_tests)
 
 pair_refl : (p : Pair) → same_pair p p ≡ true
-pair_refl p = and_from _ _ (eq-eqb p.0 p.0 refl) (eq-eqb p.1 p.1 refl)
+pair_refl p = grind (arith, nat_tests)
 
 -- two related defects score as one of the worse class
 abbrev pub merged : Defect → Defect → Defect

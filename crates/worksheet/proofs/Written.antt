@@ -6,7 +6,6 @@ use Rattle.std.proofs.lemmas.Str.Parse.{not_in_digits, digits_value_short}
 use Rattle.std.proofs.lemmas.Bool.{and_from, and_parts, eqb-true, ltb-true, leb-true, lt-ltb, le-leb, cond-true}
 use Rattle.std.specs.Option.{option_map}
 use Rattle.std.specs.Str.Parse.{digits_value}
-use lib.Utf8.{encode}
 use Rattle.std.specs.Str.{all_ascii_digits}
 use Rattle.decimals.specs.Digits.{digits_form, numeral}
 use Rattle.decimals.proofs.Reading.{own}
@@ -16,14 +15,10 @@ use Rattle.inspection.specs.Letters.{class_letter, class_of}
 use Rattle.inspection.specs.declared.class.DefectClass.{DefectClass}
 use Rattle.inspection.specs.declared.class.DefectClass.TheVariants.{Critical, Major, Minor}
 use Rattle.worksheet.specs.declared.defect.Defect.{Defect}
-use Rattle.worksheet.specs.Defects.{unit_form, unit_of, tail_form, tail_of, joint, written, Keyed}
-use Rattle.worksheet.specs.Pieces.{Piece, fields, bare, text_of, defect_of, by_tab, piece}
+use Rattle.texts.specs.Pieces.{Piece, fields, bare, text_of, by_tab, piece}
+use Rattle.texts.proofs.Cuts.{parted_field, text_of_piece}
+use Rattle.worksheet.specs.Defects.{unit_form, unit_of, tail_form, tail_of, joint, defect_of, written, Keyed}
 use Rattle.worksheet.specs.Promises.{ReadsBack}
-use Rattle.worksheet.proofs.Cuts.{parted_field, text_of_piece}
-
--- nothing is not something
-pub never : {X : Type 0} {P : Type 0} {x : X} → None ≡ Some x → P
-never e = let z : ◌≡◌ {A = ℕ} 0 1 = cc in absurd (omega arith)
 
 led_some : (ds : List ℕ) → 0 < get_or ds 0 0 → 0 < length ds
 led_some [] h = absurd (omega arith)
@@ -39,8 +34,8 @@ unfolding numeral
 unit_back ds u e = by (unit_form ds) refl (digits_form ds) refl e
   where
     by : (t : Bool) → unit_form ds ≡ t → (d : Bool) → digits_form ds ≡ d → cond t (cond d (Some (digits_value 10 ds)) None) None ≡ Some u → (1 ≤ u) × (u ≤ 9999) × (ds ≡ decimal u)
-    by false t d f e = never e
-    by true t false f e = never e
+    by false t d f e = cc
+    by true t false f e = cc
     by true t true f e =
         let is : digits_value 10 ds ≡ u = cc in
         let led = and_parts (ltb 48 (get_or ds 0 0)) _ t in
@@ -62,21 +57,11 @@ unit_forth u low high =
     let digits : digits_form ds ≡ true = and_from _ _ (and_from _ _ (lt-ltb 0 (length ds) (decimal_nonempty u small)) (le-leb (length ds) 9 (omega arith))) (digits_decimal own u small) in
     cond-true _ _ _ form ∙ cond-true _ _ _ digits ∙ ap Some (digits_value-decimal own u small)
 
-pub no_unit : (ds : List ℕ) → length ds < 1 → None ≡ unit_of ds
-no_unit [] h = refl
-no_unit (d ∷ ds) h = absurd (omega arith)
-
 -- a unit fits its width
 pub unit_small : (ds : List ℕ) (u : ℕ) → length ds ≤ 4 → Some u ≡ numeral ds → u < 10000
 unit_small ds u short e =
     let fits = (numeral_back ds u (sym e)).0 in
     omega (arith, fits, pow-le-pow_right {n = 10} (omega arith) short)
-
-pub letter_encoded : (k : DefectClass) → encode (class_letter k) ≡ class_letter k ∷ []
-unfolding encode
-letter_encoded Critical = refl
-letter_encoded Major = refl
-letter_encoded Minor = refl
 
 -- a keyed defect's cause is one digit
 pub written_keyed : (d : Defect) → Keyed d → decimal d.unit ++ 9 ∷ (48 + d.cause) ∷ 9 ∷ class_letter d.class ∷ 10 ∷ [] ≡ written d
@@ -87,15 +72,15 @@ abbrev Tail : List ℕ → ℕ × DefectClass → Type 0
 Tail r t = (1 ≤ t.0) × (t.0 ≤ 9) × (r ≡ (48 + t.0) ∷ 9 ∷ class_letter t.1 ∷ 10 ∷ [])
 
 tail_back : (r : List ℕ) (t : ℕ × DefectClass) → tail_of r ≡ Some t → Tail r t
-tail_back [] t e = never e
-tail_back (a ∷ []) t e = never e
-tail_back (a ∷ b ∷ []) t e = never e
-tail_back (a ∷ b ∷ c ∷ []) t e = never e
+tail_back [] t e = cc
+tail_back (a ∷ []) t e = cc
+tail_back (a ∷ b ∷ []) t e = cc
+tail_back (a ∷ b ∷ c ∷ []) t e = cc
 tail_back (a ∷ b ∷ c ∷ d ∷ []) t e = by (tail_form a b d) refl (class_of c) refl e
   where
     by : (f : Bool) → tail_form a b d ≡ f → (o : Option DefectClass) → class_of c ≡ o → cond f (option_map (λ k. (a - 48, k)) o) None ≡ Some t → Tail (a ∷ b ∷ c ∷ d ∷ []) t
-    by false f o q e = never e
-    by true f None q e = never e
+    by false f o q e = cc
+    by true f None q e = cc
     by true f (Some k) q e =
         let same : ◌≡◌ {A = ℕ × DefectClass} (a - 48, k) t = cc in
         let parts = and_parts (ltb 48 a && leb a 57) _ f in
@@ -108,12 +93,10 @@ tail_back (a ∷ b ∷ c ∷ d ∷ []) t e = by (tail_form a b d) refl (class_of
         let letter = lettered_back class_letter (Critical ∷ Major ∷ Minor ∷ []) c k q in
         let digit : 48 + (a - 48) ≡ a = omega arith in
         subst (Tail (a ∷ b ∷ c ∷ d ∷ [])) same (omega arith, omega arith, rw (digit, letter, ← tab, ← feed))
-tail_back (a ∷ b ∷ c ∷ d ∷ f ∷ bs) t e = never e
+tail_back (a ∷ b ∷ c ∷ d ∷ f ∷ bs) t e = cc
 
 class_forth : (k : DefectClass) → class_of (class_letter k) ≡ Some k
-class_forth Critical = refl
-class_forth Major = refl
-class_forth Minor = refl
+class_forth k = grind arith
 
 tail_forth : (n : ℕ) (k : DefectClass) → 1 ≤ n → n ≤ 9 → tail_of ((48 + n) ∷ 9 ∷ class_letter k ∷ 10 ∷ []) ≡ Some (n, k)
 tail_forth n k low high =
@@ -122,12 +105,12 @@ tail_forth n k low high =
     cond-true _ _ _ form ∙ ap (option_map (λ k. ((48 + n) - 48, k))) (class_forth k) ∙ ap (λ m. Some (m, k)) digit
 
 pub piece_back : (p : Piece) (d : Defect) → defect_of p ≡ Some d → Keyed d × (text_of p ≡ written d)
-piece_back (bare n text) d e = never e
+piece_back (bare n text) d e = cc
 piece_back (fields n first rest) d e = by (unit_of first) refl (tail_of rest) refl e
   where
     by : (o : Option ℕ) → unit_of first ≡ o → (t : Option (ℕ × DefectClass)) → tail_of rest ≡ t → joint o t ≡ Some d → Keyed d × (first ++ 9 ∷ rest ≡ written d)
-    by None u t v e = never e
-    by (Some o) u None v e = never e
+    by None u t v e = cc
+    by (Some o) u None v e = cc
     by (Some o) u (Some t) v e =
         let same : ◌≡◌ {A = Defect} (record { unit = o; cause = t.0; class = t.1 }) d = cc in
         let unit = unit_back first o u in

@@ -2,6 +2,7 @@
 use Rattle.std.specs.Prelude.{ℕ, ◌-◌, ◌≤◌, Bool, cond, ◌&&◌, ◌||◌, List, [], ◌∷◌, ◌++◌, length, Some, None, decimal, Option, ◌==◌, nat_le, nat_lt, slice_index}
 use Rattle.std.specs.Option.{option_map}
 use Rattle.decimals.specs.Digits.{numeral}
+use Rattle.texts.specs.Pieces.{Piece, fields, bare}
 use Rattle.inspection.specs.Letters.{class_letter, class_of}
 use Rattle.inspection.specs.declared.class.DefectClass.{DefectClass}
 use Rattle.worksheet.specs.declared.defect.Defect.{Defect}
@@ -51,6 +52,11 @@ at_unit (Some t) u = Some (record { unit = u; cause = t.0; class = t.1 })
 abbrev pub joint : Option ℕ → Option (ℕ × DefectClass) → Option Defect
 joint None t = None
 joint (Some u) t = at_unit t u
+
+-- what a line says, where it is of form
+abbrev pub defect_of : Piece → Option Defect
+defect_of (fields n first rest) = joint (unit_of first) (tail_of rest)
+defect_of (bare n text) = None
 
 -- the line of a defect
 abbrev pub written : Defect → List ℕ

@@ -1,21 +1,12 @@
 -- What holds of every sheet, over the definitions of this folder.
-use Rattle.std.specs.Prelude.{◌≡◌, ℕ, ◌+◌, ◌*◌, ◌<◌, ◌≤◌, ◌↔◌, List, length, IfOk, Some, Ok, Result, slice_index_or}
-use Rattle.std.specs.List.{flat_map}
+use Rattle.std.specs.Prelude.{◌≡◌, ℕ, ◌*◌, ◌≤◌, ◌↔◌, List, IfOk, Some, Ok, Result}
 use Rattle.inspection.specs.Tallies.{total_of}
 use Rattle.inspection.specs.declared.refusal.Refusal.{Refusal}
 use Rattle.inspection.specs.declared.tally.Tally.{Tally}
 use Rattle.worksheet.specs.declared.defect.Defect.{Defect}
-use Rattle.worksheet.specs.Defects.{Keyed, written}
-use Rattle.worksheet.specs.Pieces.{Piece, number_of, text_of, defect_of, piece, pieces}
+use Rattle.texts.specs.Pieces.{piece}
+use Rattle.worksheet.specs.Defects.{Keyed, defect_of, written}
 use Rattle.worksheet.specs.Scores.{score_of}
-
--- the pieces put together again are the sheet
-abbrev pub Whole : List ℕ → Type 0
-Whole sheet = flat_map text_of (pieces sheet) ≡ sheet
-
--- the first line has number 1, and each the next number
-abbrev pub Numbered : List ℕ → Type 0
-Numbered sheet = (k : ℕ) (p : Piece) → k < length (pieces sheet) → number_of (slice_index_or (pieces sheet) k p) ≡ k + 1
 
 -- a line says a defect exactly where it is that defect's line
 abbrev pub ReadsBack : Type 0

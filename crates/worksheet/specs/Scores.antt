@@ -8,8 +8,8 @@ use Rattle.inspection.specs.declared.refusal.Refusal.TheVariants.{SheetLineNotOf
 use Rattle.inspection.specs.declared.tally.Tally.{Tally}
 use Rattle.worksheet.specs.declared.defect.Defect.{Defect}
 use Rattle.worksheet.specs.declared.scoring.Scored.{Scored}
-use Rattle.worksheet.specs.Defects.{Pair, pair, same_pair, falls}
-use Rattle.worksheet.specs.Pieces.{Piece, number_of, defect_of, pieces}
+use Rattle.texts.specs.Pieces.{Piece, number_of, pieces}
+use Rattle.worksheet.specs.Defects.{Pair, pair, same_pair, falls, defect_of}
 
 -- the pair falls from the line before, if there is one
 abbrev pub falls_after : Option Defect → Defect → Bool

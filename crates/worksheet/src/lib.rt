@@ -2,6 +2,6 @@
 #![tactic(auto)]
 
 pub mod defect;
-pub mod lines;
+mod form;
 pub mod promises;
 pub mod scoring;

@@ -1,16 +1,17 @@
 // Scoring a sheet in one pass.
 ghost use Rattle.std.specs.Prelude.{◌≡◌, ℕ, ◌≤◌, length, IfOk, Some, None, MatchResult};
 ghost use Rattle.inspection.specs.Tallies.{total_of};
-ghost use Rattle.worksheet.specs.Pieces.{shown, defect_of, pieces};
+ghost use Rattle.texts.specs.Pieces.{shown, pieces};
+ghost use Rattle.worksheet.specs.Defects.{defect_of};
 ghost use Rattle.worksheet.specs.Promises.{AtMostNine};
 ghost use Rattle.worksheet.specs.Running.{counted as counting, entered, closed};
 ghost use Rattle.worksheet.specs.Scores.{fault, score_of, tally_part};
 
 use crate::defect::Defect;
-use crate::lines::{Item, Lines};
 use inspection::class::DefectClass;
 use inspection::refusal::Refusal;
 use inspection::tally::Tally;
+use texts::lines::{Item, Lines};
 
 // A sheet without a bad line: how many lines it has, and the tally of its sample.
 #[derive(Clone, Copy, PartialEq, Eq, Debug)]
@@ -31,26 +32,18 @@ fn counted(tally: Tally, class: DefectClass) -> Tally
     requires { total_of tally ≤ 99999 }
     ensures { result ≡ counting tally class }
 {
-    let Tally {
-        critical,
-        major,
-        minor,
-    } = tally;
     match class {
         DefectClass::Critical => Tally {
-            critical: critical + 1,
-            major,
-            minor,
+            critical: tally.critical + 1,
+            ..tally
         },
         DefectClass::Major => Tally {
-            critical,
-            major: major + 1,
-            minor,
+            major: tally.major + 1,
+            ..tally
         },
         DefectClass::Minor => Tally {
-            critical,
-            major,
-            minor: minor + 1,
+            minor: tally.minor + 1,
+            ..tally
         },
     }
 }
@@ -60,22 +53,16 @@ impl Running {
         requires { total_of self.tally ≤ 99999 }
         ensures { result ≡ entered self.tally self.last defect }
     {
-        let Running { tally, last } = self;
-        match last {
+        match self.last {
             Some(last) if last.is_related_to(&defect) => Running {
-                tally,
                 last: Some(Defect {
-                    unit: last.unit,
-                    cause: last.cause,
                     class: last.class.or_worse(defect.class),
+                    ..last
                 }),
+                ..self
             },
-            Some(last) => Running {
-                tally: counted(tally, last.class),
-                last: Some(defect),
-            },
-            None => Running {
-                tally,
+            _ => Running {
+                tally: self.close(),
                 last: Some(defect),
             },
         }
@@ -97,15 +84,11 @@ fn check(item: &Item<'_>, units: u32, last: Option<Defect>) -> Result<Defect, Re
     ensures { MatchResult result (λ d. (fault units last (shown item.now) ≡ None) × (defect_of (shown item.now) ≡ Some d)) (λ e. fault units last (shown item.now) ≡ Some e) }
 {
     let line = item.line();
-    let Some(defect) = item.defect() else {
-        return Err(Refusal::SheetLineNotOfForm { line });
-    };
-    if defect.unit as u32 > units {
+    let defect = Defect::of_item(item).ok_or(Refusal::SheetLineNotOfForm { line })?;
+    if u32::from(defect.unit) > units {
         return Err(Refusal::UnitAboveSample { line });
     }
-    if let Some(last) = last
-        && defect.falls_below(&last)
-    {
+    if last.is_some_and(|last| defect.falls_below(&last)) {
         return Err(Refusal::PairFalls { line });
     }
     Ok(defect)
@@ -117,14 +100,14 @@ pub fn read(sheet: &[u8], units: u32) -> Result<Scored, Refusal>
     ensures lines { IfOk result (λ w. w.lines ≡ length (pieces sheet.now)) }
     ensures few { AtMostNine units (tally_part result) }
 {
-    let mut lines = 0usize;
+    let mut lines = 0;
     let mut running = Running {
         tally: Tally::CLEAN,
         last: None,
     };
     for item in Lines::new(sheet) {
         running = running.enter(check(&item, units, running.last)?);
-        lines += 1;
+        lines = item.line();
     }
     Ok(Scored {
         lines,

@@ -11,12 +11,7 @@ use crate::lines::{Item, Lines};
 fn first_mark(bytes: &[u8]) -> Option<usize>
     ensures { MatchOption result (Unmarked (length bytes.now) bytes.now) (λ i. MarkAt i bytes.now) }
 {
-    for (i, b) in bytes.iter().enumerate() {
-        if *b == b'\t' || *b == b'\n' {
-            return Some(i);
-        }
-    }
-    None
+    bytes.iter().position(|b| matches!(b, b'\t' | b'\n'))
 }
 
 // Where the line ends that the bytes begin with.
@@ -31,10 +26,7 @@ fn line_end(bytes: &[u8]) -> usize
     {
         return 4;
     }
-    match position(bytes, b'\n') {
-        Some(feed) => feed + 1,
-        None => bytes.len(),
-    }
+    position(bytes, b'\n').map_or(bytes.len(), |feed| feed + 1)
 }
 
 // The first line of the bytes, and what follows it.
@@ -44,16 +36,16 @@ fn take_line(line: usize, bytes: &[u8]) -> (Item<'_>, &[u8])
     ensures fewer { length result.1.now < length bytes.now }
 {
     let Some(mark) = first_mark(bytes) else {
-        return (Item::Bare { line, text: bytes }, &bytes[bytes.len()..]);
+        return (Item::Bare { line, text: bytes }, &[]);
     };
     let after = &bytes[mark + 1..];
     if bytes[mark] == b'\n' {
-        let text = &bytes[0..mark + 1];
+        let text = &bytes[..mark + 1];
         return (Item::Bare { line, text }, after);
     }
     let end = line_end(after);
-    let first = &bytes[0..mark];
-    let rest = &after[0..end];
+    let first = &bytes[..mark];
+    let rest = &after[..end];
     (Item::Fields { line, first, rest }, &after[end..])
 }
 

@@ -1,21 +1,12 @@
-use Rattle.std.proofs.Common.{ap, ◌∙◌}
 use Rattle.runs.specs.History.{report_irregular}
-use Rattle.runs.specs.Lines.{refuses}
-use Rattle.runs.specs.Writing.{sheet_score}
-use Rattle.line.proofs.Calling.{notice_comes}
+use Rattle.line.proofs.Calling.{notice_does}
+use Rattle.line.proofs.Settling.{check_does}
 use Rattle.line.proofs.line.Line.report_irregular.Goals as goal
 
-pub returns-in-None : goal.returns-in-None
-returns-in-None g c =
-    let line = c.args.self.now in
-    let st = line.standing in
-    let es = g.B.Book.entries line.book in
-    let n = g.B.Book.room line.book in
-    let rules = g.R.Regime.rules line.regime in
-    let done = c.settle.ensures in
-    let after = c.settle.new.self in
-    record {
-      call = notice_comes rules st es n c.notice_taken-taken.result c.settle.result after.standing (g.B.Book.entries after.book) (g.B.Book.room after.book) done.call (c.in-None.ensures ∙ ap (λ n. refuses rules sheet_score report_irregular st es n) c.room_left.ensures) c.notice_taken-taken.ensures;
-      same = done.same;
-      regime = done.regime;
-    }
+pub returns-in_err-check_notice : goal.returns-in_err-check_notice
+returns-in_err-check_notice g c =
+    check_does g.B.Book.entries g.B.Book.room c.args.self.now (g.R.Regime.rules c.args.self.now.regime) report_irregular c.room_left.result c.in_err-check_notice.field-0.0 c.from_residual.result c.from_residual.ensures.1 c.room_left.ensures c.in_err-check_notice.ensures
+
+pub returns : goal.returns
+returns g c =
+    notice_does g.B.Book.entries g.B.Book.room (g.R.Regime.rules c.args.self.now.regime) c.args.self.now c.settle.new.self c.notice_taken-taken.result c.settle.result c.settle.ensures c.room_left.result c.room_left.ensures c.in_ok-check_notice.ensures c.notice_taken-taken.ensures

@@ -1,21 +1,13 @@
-use Rattle.std.proofs.Common.{ap, ◌∙◌}
 use Rattle.regimes.specs.Portions.{on_line_rules}
 use Rattle.runs.specs.History.{end_period}
-use Rattle.runs.specs.Lines.{refuses}
-use Rattle.runs.specs.Writing.{sheet_score}
-use Rattle.line.proofs.Calling.{end_comes}
+use Rattle.line.proofs.Calling.{end_does}
+use Rattle.line.proofs.Settling.{check_does}
 use Rattle.line.proofs.portions.«Line+OnLine+B».end_period.Goals as goal
 
-pub returns-in-None : goal.returns-in-None
-returns-in-None g c =
-    let line = c.args.self.now in
-    let st = line.standing in
-    let es = g.B.Book.entries line.book in
-    let n = g.B.Book.room line.book in
-    let done = c.settle.ensures in
-    let after = c.settle.new.self in
-    record {
-      call = end_comes on_line_rules st es n c.end_taken-taken.result c.settle.result after.standing (g.B.Book.entries after.book) (g.B.Book.room after.book) done.call (c.in-None.ensures ∙ ap (λ n. refuses on_line_rules sheet_score end_period st es n) c.room_left.ensures) c.end_taken-taken.ensures;
-      same = done.same;
-      regime = done.regime;
-    }
+pub returns-in_err-check_end : goal.returns-in_err-check_end
+returns-in_err-check_end g c =
+    check_does g.B.Book.entries g.B.Book.room c.args.self.now on_line_rules end_period c.room_left.result c.in_err-check_end.field-0.0 c.from_residual.result c.from_residual.ensures.1 c.room_left.ensures c.in_err-check_end.ensures
+
+pub returns : goal.returns
+returns g c =
+    end_does g.B.Book.entries g.B.Book.room on_line_rules c.args.self.now c.settle.new.self c.end_taken-taken.result c.settle.result c.settle.ensures c.room_left.result c.room_left.ensures c.in_ok-check_end.ensures c.end_taken-taken.ensures

@@ -1,5 +1,0 @@
-use Rattle.decimals.proofs.Reading.{Read}
-use Rattle.decimals.proofs.read_digits.Given as goal
-
-abbrev pub invariant-loop-digit : goal.invariant-loop-digit
-invariant-loop-digit l = Read l.digits l.digit-index l.number

@@ -1,5 +1,0 @@
-use Rattle.decimals.proofs.Plain.{SoFar}
-use Rattle.decimals.proofs.read_number.Given as goal
-
-abbrev pub invariant-loop-digit : goal.invariant-loop-digit
-invariant-loop-digit l = SoFar l.digits l.digit-index l.value
