@@ -19,16 +19,13 @@ abbrev pub going : List LotRow → List LimitRow → Option Row → List Piece �
 going lots limits last ps =
     unless (option_or (first_bad last ps) (counted (lots ++ lots_said ps) (limits ++ limits_said ps))) (lots ++ lots_said ps, limits ++ limits_said ps)
 
-abbrev both : Option Refusal → List LotRow → List LimitRow → Result Rows Refusal
-both o lots limits = unless (option_or o (counted lots limits)) (lots, limits)
-
 -- one good line more
 pub going_more : (lots : List LotRow) (limits : List LimitRow) (last : Option Row) (row : Row) (p : Piece) (ps qs : List Piece) (more : List LotRow) (further : List LimitRow) (now : Option Row) → qs ≡ p ∷ ps → fault last p ≡ None → row_of p ≡ Some row → more ≡ lots ++ lot_of row → further ≡ limits ++ limit_of row → now ≡ Some row → going lots limits last qs ≡ going more further now ps
 going_more lots limits last row p ps qs more further now split good says is fur nw =
     let lotsNow : lots ++ lots_said (p ∷ ps) ≡ more ++ lots_said ps = ap (λ o. lots ++ lot_said o (lots_said ps)) says ∙ sym (append_assoc lots (lot_of row) (lots_said ps)) ∙ ap (λ l. l ++ lots_said ps) (sym is) in
     let limitsNow : limits ++ limits_said (p ∷ ps) ≡ further ++ limits_said ps = ap (λ o. limits ++ limit_said o (limits_said ps)) says ∙ sym (append_assoc limits (limit_of row) (limits_said ps)) ∙ ap (λ l. l ++ limits_said ps) (sym fur) in
     let bad : first_bad last (p ∷ ps) ≡ first_bad now ps = ap (λ o. option_or o (first_bad (row_of p) ps)) good ∙ ap (λ o. first_bad o ps) (says ∙ sym nw) in
-    ap (going lots limits last) split ∙ (λ i. both (bad i) (lotsNow i) (limitsNow i))
+    ap (going lots limits last) split ∙ (λ i. unless (option_or (bad i) (counted (lotsNow i) (limitsNow i))) (lotsNow i, limitsNow i))
 
 -- the last line is read
 going_end : (lots : List LotRow) (limits : List LimitRow) (last : Option Row) (qs : List Piece) → qs ≡ [] → going lots limits last qs ≡ unless (counted lots limits) (lots, limits)
@@ -58,9 +55,9 @@ kept_more (Some (Limit a)) (Lot w) lots limits k f h = cc
 kept_more (Some (Limit a)) (Limit m) lots limits k f h = search (rules, and_from)
 
 kept_said : (last : Option Row) (ps : List Piece) → first_bad last ps ≡ None → Kept last (lots_said ps) (limits_said ps)
-kept_said None [] e = record { lots_kept = refl; limits_kept = refl; lots_order = refl; limits_order = refl; no_lots = tt }
-kept_said (Some (Lot r)) [] e = record { lots_kept = refl; limits_kept = refl; lots_order = refl; limits_order = refl; no_lots = tt }
-kept_said (Some (Limit r)) [] e = record { lots_kept = refl; limits_kept = refl; lots_order = refl; limits_order = refl; no_lots = refl }
+kept_said None [] e = search rules
+kept_said (Some (Lot r)) [] e = search rules
+kept_said (Some (Limit r)) [] e = search rules
 kept_said last (p ∷ ps) e = by (row_of p) (λ o. kept_said o ps) e
   where
     by_tests : (r : Row) (k : Bool) → row_kept r ≡ k → (f : Bool) → follows_after last r ≡ f → option_or (cond k (cond f None (Some (PlanRowOutOfOrder (number_of p)))) (Some (PlanBoundBroken (number_of p)))) (first_bad (Some r) ps) ≡ None → (first_bad (Some r) ps ≡ None → Kept (Some r) (lots_said ps) (limits_said ps)) → Kept last (lot_said (Some r) (lots_said ps)) (limit_said (Some r) (limits_said ps))
