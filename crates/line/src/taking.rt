@@ -10,9 +10,10 @@ ghost use Rattle.runs.specs.Writing.{sheet_score};
 ghost use Rattle.line.specs.Seeing.{seen_of, seen_refusal};
 ghost use Rattle.line.specs.Doing.{lot_taken_at, lot_awaited, second_taken_at, article_noted, turned_by, unsound_refusal, portion_sample, lot_sample, second_sample};
 
+use crate::earlier::Earlier;
 use crate::line::Line;
-use crate::looking::Seen;
 use crate::sample::Sample;
+use crate::seen::Seen;
 use books::book::Book;
 use entries::entry::Entry;
 use inspection::kind::Kind;
@@ -418,10 +419,7 @@ where
         let Some(limits) = self.regime.relief_limits(seen.units) else {
             return Err(Refusal::TooFewUnits);
         };
-        if seen.critical > limits.critical as u64
-            || seen.major > limits.major as u64
-            || seen.total > limits.total as u64
-        {
+        if seen.is_above(&limits) {
             return Err(Refusal::DefectsAboveLimit);
         }
         Ok(())
@@ -431,7 +429,7 @@ where
         ensures { result ≡ answered (seen_refusal (R.Regime.rules self.now.regime) (seen_of (in_window (R.Regime.rules self.now.regime) self.now.standing (take before (B.Book.entries self.now.book))))) }
     {
         let most = self.regime.window_length().min(self.standing.spell);
-        self.check_seen(self.look_back(before, most))
+        self.check_seen(Earlier::of(&self.book, before).look_back(most))
     }
 
     pub(crate) fn check_relief(&self, before: u32, room: u32) -> Result<(), Refusal>
