@@ -1,7 +1,6 @@
 -- One entry more or less: what it adds to what is seen, and which first sample awaits its second after it.
-use Rattle.std.proofs.Common.{◌≡◌, ℕ, zero, suc, ◌+◌, ◌-◌, ◌<◌, ◌≤◌, min, Bool, true, false, cond, leb, List, [], ◌∷◌, ◌++◌, length, get_or, take, Some, None, Option, sym, refl, ap, ◌∙◌, subst, arith}
-use Rattle.std.proofs.lemmas.List.{length-append, take_all, take_more}
-use Rattle.std.proofs.lemmas.Bool.{leb-true, leb-false}
+use Rattle.std.proofs.Common.{◌≡◌, ℕ, zero, suc, ◌+◌, ◌-◌, ◌<◌, ◌≤◌, Bool, true, false, cond, List, [], ◌∷◌, ◌++◌, length, get_or, take, Some, None, Option, sym, refl, ap, ◌∙◌, subst, arith}
+use Rattle.std.proofs.lemmas.List.{length-append, take_more}
 use Rattle.inspection.specs.declared.kind.Kind.{Kind}
 use Rattle.inspection.specs.declared.kind.Kind.TheVariants as kind
 use Rattle.entries.specs.declared.entry.Entry.{Entry}
@@ -16,18 +15,10 @@ use Rattle.runs.specs.Lines.{Sample as Ruled, Reading, sole, both, read_by, read
 use Rattle.runs.specs.LookingBack.{sample_back, with_first, article_back}
 use Rattle.runs.specs.Spells.{rejections}
 use Rattle.runs.proofs.Small.{reading_push}
-use Rattle.runs.proofs.LookingBack.{last_none, last_of_none, last_more}
+use Rattle.runs.proofs.LookingBack.{last_more}
 use Rattle.line.specs.declared.sample.Sample.{Sample}
 use Rattle.line.specs.declared.seen.Seen.{Seen}
 use Rattle.line.specs.Seeing.{seen_of, seen_decided, seen_entry, seen_sample, as_held, first_of_lot, together, Within}
-
--- no more entries are read than there are
-pub clipped : (n m : ℕ) (es : List Entry) → m ≡ min n (length es) → take m es ≡ take n es
-clipped n m es e = by (leb n (length es)) refl
-  where
-    by : (b : Bool) → leb n (length es) ≡ b → take m es ≡ take n es
-    by true t = let h : n ≤ length es = leb-true n (length es) t in ap (λ k. take k es) (omega arith)
-    by false t = let h : length es < n = leb-false n (length es) t in take_all m es (omega arith) ∙ sym (take_all n es (omega arith))
 
 -- the articles after an entry that decides one or none
 abbrev then_decided : List Article → Option Article → List Article
@@ -222,22 +213,3 @@ whole_step most r s x answer es e fewer decided is so_far =
         count_newest s (last_articles (most - (s.articles + 1)) xs) a
         ∙ ap (λ l. together s (seen_of l)) (sym (last_more (most - (s.articles + 1)) xs a))
         ∙ ap (λ k. together s (seen_of (last_articles k (xs ++ a ∷ [])))) (sym left)
-
--- enough is seen
-pub whole_enough : (most : ℕ) (s answer : Seen) (es : List Entry) → most ≤ s.articles → whole most s es ≡ answer → s ≡ answer
-whole_enough most s answer es enough so_far =
-    let none : most - s.articles ≡ 0 = omega arith in
-    sym (ap (λ k. together s (seen_of (last_articles k (articles es)))) none ∙ ap (λ l. together s (seen_of l)) (last_none (articles es)) ∙ nothing_more s)
-    ∙ so_far
-
--- none is left to be read back
-pub whole_end : (most : ℕ) (s answer : Seen) (es : List Entry) → es ≡ [] → whole most s es ≡ answer → s ≡ answer
-whole_end most s answer es end so_far =
-    sym (ap (λ l. together s (seen_of (last_articles (most - s.articles) (articles l)))) end ∙ ap (λ l. together s (seen_of l)) (last_of_none (most - s.articles)) ∙ nothing_more s)
-    ∙ so_far
-
-pub whole_start : (most : ℕ) (es : List Entry) → whole most (seen_of []) es ≡ seen_of (last_articles most (articles es))
-whole_start most es =
-    let all : most - 0 ≡ most = omega arith in
-    ap (λ k. together (seen_of []) (seen_of (last_articles k (articles es)))) all
-    ∙ seen_alike (omega arith) (omega arith) (omega arith) (omega arith) (omega arith) (omega arith)
