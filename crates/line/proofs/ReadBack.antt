@@ -1,13 +1,12 @@
--- One entry less read back: what it adds to what is seen, and which first sample awaits its second before it.
-use Rattle.std.proofs.Common.{◌≡◌, ℕ, suc, ◌+◌, ◌-◌, ◌<◌, ◌≤◌, min, Bool, true, false, cond, leb, List, [], ◌∷◌, ◌++◌, length, get_or, take, Some, None, Option, sym, refl, ap, ◌∙◌, subst, arith}
-use Rattle.std.proofs.lemmas.List.{length-append, take_all}
-use Rattle.std.proofs.lemmas.Bool.{leb-true, leb-false}
+-- One entry more or less: what it adds to what is seen, and which first sample awaits its second after it.
+use Rattle.std.proofs.Common.{◌≡◌, ℕ, zero, suc, ◌+◌, ◌-◌, ◌<◌, ◌≤◌, Bool, true, false, cond, List, [], ◌∷◌, ◌++◌, length, get_or, take, Some, None, Option, sym, refl, ap, ◌∙◌, subst, arith}
+use Rattle.std.proofs.lemmas.List.{length-append, take_more}
 use Rattle.inspection.specs.declared.kind.Kind.{Kind}
 use Rattle.inspection.specs.declared.kind.Kind.TheVariants as kind
 use Rattle.entries.specs.declared.entry.Entry.{Entry}
 use Rattle.entries.specs.Entries.{spoiled}
 use Rattle.books.specs.Books.{numbered}
-use Rattle.books.proofs.Numbering.{numbered_at}
+use Rattle.books.proofs.Numbering.{numbered_zero, numbered_at}
 use Rattle.inspection.specs.Classes.{count_of}
 use Rattle.inspection.specs.declared.class.JudgedClass.{JudgedClass}
 use Rattle.inspection.specs.declared.class.JudgedClass.TheVariants.{Critical, Major, Total}
@@ -15,18 +14,11 @@ use Rattle.runs.specs.History.{Article, is_awaited, verdicts, units_of, defects_
 use Rattle.runs.specs.Lines.{Sample as Ruled, Reading, sole, both, read_by, reading, articles, last_articles}
 use Rattle.runs.specs.LookingBack.{sample_back, with_first, article_back}
 use Rattle.runs.specs.Spells.{rejections}
-use Rattle.runs.proofs.LookingBack.{reading_more, last_none, last_more}
+use Rattle.runs.proofs.Small.{reading_push}
+use Rattle.runs.proofs.LookingBack.{last_more}
 use Rattle.line.specs.declared.sample.Sample.{Sample}
-use Rattle.line.specs.declared.looking.Seen.{Seen}
-use Rattle.line.specs.Seeing.{seen_of, seen_back, seen_decided, seen_entry, seen_sample, as_held, first_of_lot, first_back, together, Within}
-
--- no more entries are read than there are
-pub clipped : (n m : ℕ) (es : List Entry) → m ≡ min n (length es) → take m es ≡ take n es
-clipped n m es e = by (leb n (length es)) refl
-  where
-    by : (b : Bool) → leb n (length es) ≡ b → take m es ≡ take n es
-    by true t = let h : n ≤ length es = leb-true n (length es) t in ap (λ k. take k es) (omega arith)
-    by false t = let h : length es < n = leb-false n (length es) t in take_all m es (omega arith) ∙ sym (take_all n es (omega arith))
+use Rattle.line.specs.declared.seen.Seen.{Seen}
+use Rattle.line.specs.Seeing.{seen_of, seen_decided, seen_entry, seen_sample, as_held, first_of_lot, together, Within}
 
 -- the articles after an entry that decides one or none
 abbrev then_decided : List Article → Option Article → List Article
@@ -79,57 +71,74 @@ some_same e = cc
 pub some_not_none : {a : Entry} → ◌≡◌ {A = Option Entry} (Some a) None → ⊥
 some_not_none e = let z : ◌≡◌ {A = ℕ} 0 1 = cc in omega arith
 
-module _ (n : ℕ) (es : List Entry) (some : 0 < n) (within : n ≤ length es) where
-  numbered_there : (d : Entry) → Some (get_or es (n - 1) d) ≡ numbered (n - 1 + 1) es
-  numbered_there d = let next : suc (n - 1) ≡ n - 1 + 1 = omega arith in numbered_at (n - 1) es d (omega arith) ∙ ap (λ k. numbered k es) next
+-- the last of the first n entries, and those before it
+module _ (n : ℕ) (es : List Entry) (within : n ≤ length es) where
+  pub none_last : None ≡ numbered n es → take n es ≡ []
+  none_last none = by n refl
+    where
+      by : (m : ℕ) → n ≡ m → take n es ≡ []
+      by zero z = ap (λ k. take k es) z
+      by (suc m) z = absurd (some_not_none (numbered_at m es spoiled (omega arith) ∙ ap (λ k. numbered k es) (sym z) ∙ sym none))
 
-  -- the n-th entry is there
-  pub not_absent : None ≡ numbered (n - 1 + 1) es → ⊥
-  not_absent none = some_not_none (numbered_there spoiled ∙ sym none)
+  pub some_last : (e : Entry) → Some e ≡ numbered n es → take n es ≡ take (n - 1) es ++ e ∷ []
+  some_last e found = by n refl
+    where
+      by : (m : ℕ) → n ≡ m → take n es ≡ take (n - 1) es ++ e ∷ []
+      by zero z = absurd (some_not_none (found ∙ ap (λ k. numbered k es) z ∙ sym (numbered_zero es)))
+      by (suc m) z =
+          let stands : get_or es m e ≡ e = some_same (numbered_at m es e (omega arith) ∙ ap (λ k. numbered k es) (sym z) ∙ sym found) in
+          let next : n ≡ m + 1 = omega arith in
+          let rest : m ≡ n - 1 = omega arith in
+          ap (λ k. take k es) next ∙ take_more es m e (omega arith) ∙ (λ i. take (rest i) es ++ stands i ∷ [])
 
-  module _ (e : Entry) (found : Some e ≡ numbered (n - 1 + 1) es) where
-    stands : get_or es (n - 1) e ≡ e
-    stands = some_same (numbered_there e ∙ sym found)
+  pub some_left : (e : Entry) → Some e ≡ numbered n es → 1 ≤ n
+  some_left e found = by n refl
+    where
+      by : (m : ℕ) → n ≡ m → 1 ≤ n
+      by zero z = absurd (some_not_none (found ∙ ap (λ k. numbered k es) z ∙ sym (numbered_zero es)))
+      by (suc m) z = omega arith
 
-    read_one : reading (take n es) ≡ read_by e.kind e (reading (take (n - 1) es))
-    read_one =
-        let back : n ≡ n - 1 + 1 = omega arith in
-        ap (λ k. reading (take k es)) back
-        ∙ reading_more es (n - 1) e (omega arith)
-        ∙ ap (λ (x : Entry). read_by x.kind x (reading (take (n - 1) es))) stands
+-- the first sample that awaits its second, as the line holds it
+abbrev pub held_after : List Entry → Option Sample
+held_after es = as_held (reading es).first_sample
 
-    sample_more : (reading (take n es)).first_sample ≡ sample_back e.kind e (reading (take (n - 1) es)).first_sample
-    sample_more = ap (λ (x : Reading). x.first_sample) read_one ∙ read_sample e.kind e (reading (take (n - 1) es))
+-- one entry more
+module _ (es : List Entry) (e : Entry) where
+  read_one : reading (es ++ e ∷ []) ≡ read_by e.kind e (reading es)
+  read_one = reading_push (record { articles = []; first_sample = None }) es e
 
-    articles_more : articles (take n es) ≡ then_decided (articles (take (n - 1) es)) (article_back e.kind e (reading (take (n - 1) es)).first_sample)
-    articles_more = ap (λ (x : Reading). x.articles) read_one ∙ read_articles e.kind e (reading (take (n - 1) es))
+  sample_more : (reading (es ++ e ∷ [])).first_sample ≡ sample_back e.kind e (reading es).first_sample
+  sample_more = ap (λ (x : Reading). x.first_sample) read_one ∙ read_sample e.kind e (reading es)
 
-    by_kind : (k : Kind) → e.kind ≡ k → as_held (sample_back k e (reading (take (n - 1) es)).first_sample) ≡ first_back n es
-    by_kind k is = ap as_held (ap (λ k. sample_back k e (reading (take (n - 1) es)).first_sample) (sym is) ∙ sym sample_more)
+  articles_more : articles (es ++ e ∷ []) ≡ then_decided (articles es) (article_back e.kind e (reading es).first_sample)
+  articles_more = ap (λ (x : Reading). x.articles) read_one ∙ read_articles e.kind e (reading es)
 
-    -- a lot gives its own first sample, a second sample none, and any other kind the one before it
-    module _ (answer : Option Sample) (so_far : first_back n es ≡ answer) where
-      pub first_at_lot : (r : Option Sample) → r ≡ first_of_lot e → e.kind ≡ kind.Lot → r ≡ answer
-      first_at_lot r is k = is ∙ by_kind kind.Lot k ∙ so_far
+  by_kind : (k : Kind) → e.kind ≡ k → as_held (sample_back k e (reading es).first_sample) ≡ held_after (es ++ e ∷ [])
+  by_kind k is = ap as_held (ap (λ k. sample_back k e (reading es).first_sample) (sym is) ∙ sym sample_more)
 
-      pub first_at_second : e.kind ≡ kind.SecondSample → None ≡ answer
-      first_at_second k = by_kind kind.SecondSample k ∙ so_far
+  -- a lot gives its own first sample, a second sample none, and any other kind the one before it
+  module _ (answer : Option Sample) (so_far : held_after (es ++ e ∷ []) ≡ answer) where
+    pub first_at_lot : (r : Option Sample) → r ≡ first_of_lot e → e.kind ≡ kind.Lot → r ≡ answer
+    first_at_lot r is k = is ∙ by_kind kind.Lot k ∙ so_far
 
-      pub first_passed : (e.kind ≡ kind.Lot → ⊥) → (e.kind ≡ kind.SecondSample → ⊥) → first_back (n - 1) es ≡ answer
-      first_passed l s = ap as_held (sym (passed e.kind l s (reading (take (n - 1) es)).first_sample)) ∙ by_kind e.kind refl ∙ so_far
-        where
-          passed : (k : Kind) → (k ≡ kind.Lot → ⊥) → (k ≡ kind.SecondSample → ⊥) → (o : Option Ruled) → sample_back k e o ≡ o
-          passed kind.PeriodOpened l s o = refl
-          passed kind.Portion l s o = refl
-          passed kind.PeriodEnded l s o = refl
-          passed kind.Lot l s o = absurd (l refl)
-          passed kind.SecondSample l s o = absurd (s refl)
-          passed kind.Relief l s o = refl
-          passed kind.IrregularNotice l s o = refl
-          passed kind.Spoiled l s o = refl
+    pub first_at_second : e.kind ≡ kind.SecondSample → None ≡ answer
+    first_at_second k = by_kind kind.SecondSample k ∙ so_far
 
-seen_alike : {a b : Seen} → a.articles ≡ b.articles → a.rejected ≡ b.rejected → a.units ≡ b.units → a.critical ≡ b.critical → a.major ≡ b.major → a.total ≡ b.total → a ≡ b
-seen_alike p q r s t u i = record { articles = p i; rejected = q i; units = r i; critical = s i; major = t i; total = u i }
+    pub first_passed : (e.kind ≡ kind.Lot → ⊥) → (e.kind ≡ kind.SecondSample → ⊥) → held_after es ≡ answer
+    first_passed l s = ap as_held (sym (passed e.kind l s (reading es).first_sample)) ∙ by_kind e.kind refl ∙ so_far
+      where
+        passed : (k : Kind) → (k ≡ kind.Lot → ⊥) → (k ≡ kind.SecondSample → ⊥) → (o : Option Ruled) → sample_back k e o ≡ o
+        passed kind.PeriodOpened l s o = refl
+        passed kind.Portion l s o = refl
+        passed kind.PeriodEnded l s o = refl
+        passed kind.Lot l s o = absurd (l refl)
+        passed kind.SecondSample l s o = absurd (s refl)
+        passed kind.Relief l s o = refl
+        passed kind.IrregularNotice l s o = refl
+        passed kind.Spoiled l s o = refl
+
+seen_alike : {a b : Seen} → a.articles ≡ b.articles → a.rejected ≡ b.rejected → a.units ≡ b.units → a.defects.critical ≡ b.defects.critical → a.defects.major ≡ b.defects.major → a.defects.total ≡ b.defects.total → a ≡ b
+seen_alike p q r s t u i = record { articles = p i; rejected = q i; units = r i; defects = record { critical = s i; major = t i; total = u i } }
 
 both_seen : (e : Entry) (a : Sample) (o : Option Ruled) → Some a ≡ as_held o → together (seen_sample a) (seen_of (sole e ∷ [])) ≡ seen_decided (with_first o e)
 both_seen e a None h = cc
@@ -139,9 +148,9 @@ both_seen e a (Some b) h =
     ∙ seen_alike (omega arith) (omega arith) (omega arith) (omega arith) (omega arith) (omega arith)
 
 -- a second sample with its first is one article
-pub second_seen : (before : ℕ) (es : List Entry) (e : Entry) (a : Sample) (r s t : Seen) → e.kind ≡ kind.SecondSample → Some a ≡ first_back before es → s ≡ seen_sample a → t ≡ seen_of (sole e ∷ []) → r ≡ together s t → r ≡ seen_entry before e es
-second_seen before es e a r s t k held first second is =
-    let o = (reading (take before es)).first_sample in
+pub second_seen : (es : List Entry) (e : Entry) (a : Sample) (r s t : Seen) → e.kind ≡ kind.SecondSample → Some a ≡ held_after es → s ≡ seen_sample a → t ≡ seen_of (sole e ∷ []) → r ≡ together s t → r ≡ seen_entry e es
+second_seen es e a r s t k held first second is =
+    let o = (reading es).first_sample in
     is
     ∙ ap (λ x. together x t) first
     ∙ ap (λ x. together (seen_sample a) x) second
@@ -184,39 +193,23 @@ count_newest s xs a =
 nothing_more : (s : Seen) → together s (seen_of []) ≡ s
 nothing_more s = seen_alike (omega arith) (omega arith) (omega arith) (omega arith) (omega arith) (omega arith)
 
--- what is seen once the first n entries are read back too, where s is seen already
-abbrev pub whole : ℕ → ℕ → Seen → List Entry → Seen
-whole n most s es = together s (seen_of (last_articles (most - s.articles) (articles (take n es))))
+-- what is seen once these entries are read back too, where s is seen already
+abbrev pub whole : ℕ → Seen → List Entry → Seen
+whole most s es = together s (seen_of (last_articles (most - s.articles) (articles es)))
 
 -- one entry more is read back
-pub whole_step : (n most : ℕ) (r s x answer : Seen) (es : List Entry) (e : Entry) → 0 < n → n ≤ length es → s.articles < most → Some e ≡ numbered (n - 1 + 1) es → x ≡ seen_entry (n - 1) e es → r ≡ together s x
-    → whole n most s es ≡ answer → whole (n - 1) most r es ≡ answer
-whole_step n most r s x answer es e some within fewer found decided is so_far =
-    ap (λ y. whole (n - 1) most y es) (is ∙ ap (together s) decided)
-    ∙ by (article_back e.kind e (reading (take (n - 1) es)).first_sample)
-    ∙ ap (λ xs. together s (seen_of (last_articles (most - s.articles) xs))) (sym (articles_more n es some within e found))
+pub whole_step : (most : ℕ) (r s x answer : Seen) (es : List Entry) (e : Entry) → s.articles < most → x ≡ seen_entry e es → r ≡ together s x → whole most s (es ++ e ∷ []) ≡ answer → whole most r es ≡ answer
+whole_step most r s x answer es e fewer decided is so_far =
+    ap (λ y. whole most y es) (is ∙ ap (together s) decided)
+    ∙ by (article_back e.kind e (reading es).first_sample)
+    ∙ ap (λ xs. together s (seen_of (last_articles (most - s.articles) xs))) (sym (articles_more es e))
     ∙ so_far
   where
-    by : (o : Option Article) → whole (n - 1) most (together s (seen_decided o)) es ≡ together s (seen_of (last_articles (most - s.articles) (then_decided (articles (take (n - 1) es)) o)))
-    by None = ap (λ y. whole (n - 1) most y es) (nothing_more s)
+    by : (o : Option Article) → whole most (together s (seen_decided o)) es ≡ together s (seen_of (last_articles (most - s.articles) (then_decided (articles es) o)))
+    by None = ap (λ y. whole most y es) (nothing_more s)
     by (Some a) =
-        let xs = articles (take (n - 1) es) in
+        let xs = articles es in
         let left : most - s.articles ≡ suc (most - (s.articles + 1)) = omega arith in
         count_newest s (last_articles (most - (s.articles + 1)) xs) a
         ∙ ap (λ l. together s (seen_of l)) (sym (last_more (most - (s.articles + 1)) xs a))
         ∙ ap (λ k. together s (seen_of (last_articles k (xs ++ a ∷ [])))) (sym left)
-
--- enough is seen
-pub whole_enough : (n most : ℕ) (s answer : Seen) (es : List Entry) → most ≤ s.articles → whole n most s es ≡ answer → s ≡ answer
-whole_enough n most s answer es enough so_far =
-    let none : most - s.articles ≡ 0 = omega arith in
-    sym (ap (λ k. together s (seen_of (last_articles k (articles (take n es))))) none ∙ ap (λ l. together s (seen_of l)) (last_none (articles (take n es))) ∙ nothing_more s)
-    ∙ so_far
-
-pub whole_start : (n m most : ℕ) (s : Seen) (es : List Entry) → s ≡ seen_of [] → m ≡ min n (length es) → whole m most s es ≡ seen_back n most es
-whole_start n m most s es is clip =
-    let all : most - 0 ≡ most = omega arith in
-    ap (λ y. whole m most y es) is
-    ∙ ap (λ k. together (seen_of []) (seen_of (last_articles k (articles (take m es))))) all
-    ∙ ap (λ t. together (seen_of []) (seen_of (last_articles most (articles t)))) (clipped n m es clip)
-    ∙ seen_alike (omega arith) (omega arith) (omega arith) (omega arith) (omega arith) (omega arith)

@@ -11,12 +11,13 @@ use Rattle.inspection.specs.declared.verdict.Verdict.TheVariants.{Awaited, Undec
 use Rattle.line.specs.declared.line.Line.{Line}
 use Rattle.runs.specs.declared.standing.Taken.{Taken}
 use Rattle.entries.specs.declared.entry.Entry.{Entry}
-use Rattle.books.specs.Books.{refusal}
+use Rattle.books.specs.Books.{refusal, answered}
 use Rattle.regimes.specs.Rules.{Rules}
+use Rattle.runs.specs.Writing.{sheet_score}
 use Rattle.runs.specs.declared.standing.Reply.{Reply}
 use Rattle.runs.specs.declared.standing.Standing.{Standing}
-use Rattle.runs.specs.History.{first, no_defects, is_awaited, is_rejected}
-use Rattle.runs.specs.Lines.{counted_on, awaiting, with_slip, after_article, turned_to, told, bare, Outcome, settled, sample, or_zero, is_due, due_size}
+use Rattle.runs.specs.History.{Call, first, no_defects, is_awaited, is_rejected}
+use Rattle.runs.specs.Lines.{counted_on, awaiting, with_slip, after_article, turned_to, told, bare, Outcome, refuses, takes, settled, step, sample, or_zero, is_due, due_size}
 
 -- answer, standing, entries and room after a call are the defined ones
 abbrev pub ComesTo : {C : Type 0} → Outcome C → Result Reply Refusal → Standing C → List Entry → ℕ → Type 0
@@ -27,6 +28,19 @@ pub record Does {R B C : Type 0} (entries : B → List Entry) (room : B → ℕ)
   pub call : ComesTo (step before.standing (entries before.book) (room before.book)) answer after.standing (entries after.book) (room after.book)
   pub same : is_err answer ≡ true → after ≡ before
   pub regime : after.regime ≡ before.regime
+
+-- the same of a call by rules, with sheets scored as the worksheet does
+abbrev pub DoesCall : {R B C : Type 0} → (B → List Entry) → (B → ℕ) → Rules C → Call → Line R B C → Result Reply Refusal → Line R B C → Type 0
+DoesCall entries room r c before answer after = Does entries room (step r sheet_score c) before answer after
+
+module _ {C : Type 0} (r : Rules C) (c : Call) (st : Standing C) (es : List Entry) where
+  -- whether rules let the call pass, with so much room
+  abbrev pub checked : ℕ → Result (Unit {0}) Refusal
+  checked n = answered (refuses r sheet_score c st es n)
+
+  -- what it comes to where they do
+  abbrev pub taken_by : Taken C
+  taken_by = takes r sheet_score c st es
 
 -- what a book refuses to write
 abbrev pub add_refusal : ℕ → Option Entry → Option Refusal

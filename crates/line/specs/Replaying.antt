@@ -10,6 +10,7 @@ use Rattle.runs.specs.declared.standing.Standing.{Standing}
 use Rattle.runs.specs.declared.standing.Taken.{Taken}
 use Rattle.runs.specs.History.{Call}
 use Rattle.runs.specs.Lines.{due_number, with_slip, refuses, takes}
+use Rattle.runs.specs.Writing.{sheet_score}
 use Rattle.runs.specs.Runs.{is_entry, call_for, showing}
 
 -- a sample of so many units that showed the tally, if some sheet could: at most nine defects to a unit
@@ -28,6 +29,10 @@ module _ {C : Type 0} where
   left_by e (Some k) bad = cond (is_entry e k.writes) (with_slip false k.standing) bad
 
 module _ {C : Type 0} (r : Rules C) where
+  -- what a call without a sheet comes to again, with room
+  abbrev pub retaken_call : Call → Standing C → List Entry → Option (Taken C)
+  retaken_call c st es = taken_unless (refuses r sheet_score c st es 1) (takes r sheet_score c st es)
+
   -- what the call comes to again, shown the entry's tally and with room
   abbrev pub retaken_by : Option Call → Entry → Standing C → List Entry → Option (Taken C)
   retaken_by None e st es = None

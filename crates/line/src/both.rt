@@ -1,8 +1,6 @@
 // Calls of either kind of line: relief and irregular notices, and how an accepted call is written down.
 ghost use Rattle.runs.specs.History.{grant_relief, report_irregular};
-ghost use Rattle.runs.specs.Lines.{step};
-ghost use Rattle.runs.specs.Writing.{sheet_score};
-ghost use Rattle.line.specs.Doing.{Does, booked};
+ghost use Rattle.line.specs.Doing.{Does, DoesCall, booked};
 
 use crate::line::Line;
 use books::book::Book;
@@ -26,7 +24,7 @@ where
     }
 
     pub(crate) fn grant_relief(&mut self) -> Result<Reply, Refusal>
-        ensures { Does B.Book.entries B.Book.room (step (R.Regime.rules self.old.regime) sheet_score grant_relief) self.old result self.new }
+        ensures { DoesCall B.Book.entries B.Book.room (R.Regime.rules self.old.regime) grant_relief self.old result self.new }
     {
         self.check_relief(self.book.count(), self.book.room_left())?;
         let taken = self.relief_taken();
@@ -34,7 +32,7 @@ where
     }
 
     pub(crate) fn report_irregular(&mut self) -> Result<Reply, Refusal>
-        ensures { Does B.Book.entries B.Book.room (step (R.Regime.rules self.old.regime) sheet_score report_irregular) self.old result self.new }
+        ensures { DoesCall B.Book.entries B.Book.room (R.Regime.rules self.old.regime) report_irregular self.old result self.new }
     {
         self.check_notice(self.book.room_left())?;
         let taken = self.notice_taken();

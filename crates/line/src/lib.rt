@@ -2,11 +2,13 @@
 #![tactic(auto)]
 
 mod both;
+mod earlier;
 pub mod line;
 mod looking;
 mod lots;
 mod portions;
 mod sample;
+mod seen;
 mod setting;
 mod slip;
 mod taking;

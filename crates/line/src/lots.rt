@@ -1,8 +1,7 @@
 // Calls of a stationary line: lots, second samples and slips.
 ghost use Rattle.runs.specs.History.{enter_lot, enter_second, hand_in, reissue as reissuing};
-ghost use Rattle.runs.specs.Lines.{step};
-ghost use Rattle.runs.specs.Writing.{sheet_score, plan_rules};
-ghost use Rattle.line.specs.Doing.{Does};
+ghost use Rattle.runs.specs.Writing.{plan_rules};
+ghost use Rattle.line.specs.Doing.{DoesCall};
 ghost use Rattle.line.specs.Slips.{lot_answer, shown_answer, SlipGiven, SlipBack};
 
 use crate::line::Line;
@@ -24,7 +23,7 @@ impl<B: Book> Line<Stationary, B> {
         size: u32,
         sheet: &[u8],
     ) -> Result<(Reply, Option<Slip>), Refusal>
-        ensures call { Does B.Book.entries B.Book.room (step (plan_rules self.old.regime.plan) sheet_score (enter_lot size sheet.now)) self.old (lot_answer result) self.new }
+        ensures call { DoesCall B.Book.entries B.Book.room (plan_rules self.old.regime.plan) (enter_lot size sheet.now) self.old (lot_answer result) self.new }
         ensures slip { SlipGiven result }
     {
         let units = self.lot_sample(self.book.room_left(), size)?;
@@ -36,7 +35,7 @@ impl<B: Book> Line<Stationary, B> {
 
     // Scores the second sample of the slip's lot, and judges the lot by both.
     pub(crate) fn enter_second(&mut self, slip: Slip, sheet: &[u8]) -> Result<Reply, Refused>
-        ensures call { Does B.Book.entries B.Book.room (step (plan_rules self.old.regime.plan) sheet_score (enter_second slip.number sheet.now)) self.old (shown_answer result) self.new }
+        ensures call { DoesCall B.Book.entries B.Book.room (plan_rules self.old.regime.plan) (enter_second slip.number sheet.now) self.old (shown_answer result) self.new }
         ensures back { SlipBack slip result }
     {
         let answer = self.take_second(slip.number(), sheet);
@@ -44,7 +43,7 @@ impl<B: Book> Line<Stationary, B> {
     }
 
     pub(crate) fn take_second(&mut self, number: u32, sheet: &[u8]) -> Result<Reply, Refusal>
-        ensures { Does B.Book.entries B.Book.room (step (plan_rules self.old.regime.plan) sheet_score (enter_second number sheet.now)) self.old result self.new }
+        ensures { DoesCall B.Book.entries B.Book.room (plan_rules self.old.regime.plan) (enter_second number sheet.now) self.old result self.new }
     {
         let units = self.second_sample(self.book.room_left(), number)?;
         let tally = score(sheet, units)?;
@@ -54,7 +53,7 @@ impl<B: Book> Line<Stationary, B> {
 
     // Takes the slip back; its lot goes on waiting.
     pub(crate) fn hand_in(&mut self, slip: Slip) -> Result<Reply, Refused>
-        ensures call { Does B.Book.entries B.Book.room (step (plan_rules self.old.regime.plan) sheet_score (hand_in slip.number)) self.old (shown_answer result) self.new }
+        ensures call { DoesCall B.Book.entries B.Book.room (plan_rules self.old.regime.plan) (hand_in slip.number) self.old (shown_answer result) self.new }
         ensures back { SlipBack slip result }
     {
         let answer = self.take_back(slip.number());
@@ -62,7 +61,7 @@ impl<B: Book> Line<Stationary, B> {
     }
 
     fn take_back(&mut self, number: u32) -> Result<Reply, Refusal>
-        ensures { Does B.Book.entries B.Book.room (step (plan_rules self.old.regime.plan) sheet_score (hand_in number)) self.old result self.new }
+        ensures { DoesCall B.Book.entries B.Book.room (plan_rules self.old.regime.plan) (hand_in number) self.old result self.new }
     {
         self.check_hand_in(number)?;
         self.standing.slip_out = false;
@@ -75,7 +74,7 @@ impl<B: Book> Line<Stationary, B> {
 
     // Gives the waiting lot's slip out again.
     pub(crate) fn reissue(&mut self) -> Result<(Reply, Option<Slip>), Refusal>
-        ensures call { Does B.Book.entries B.Book.room (step (plan_rules self.old.regime.plan) sheet_score reissuing) self.old (lot_answer result) self.new }
+        ensures call { DoesCall B.Book.entries B.Book.room (plan_rules self.old.regime.plan) reissuing self.old (lot_answer result) self.new }
         ensures slip { SlipGiven result }
     {
         self.check_reissue()?;

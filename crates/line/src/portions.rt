@@ -1,9 +1,7 @@
 // Calls of an on-line line: periods and portions.
 ghost use Rattle.regimes.specs.Portions.{on_line_rules};
 ghost use Rattle.runs.specs.History.{open_period, enter_portion, end_period};
-ghost use Rattle.runs.specs.Lines.{step};
-ghost use Rattle.runs.specs.Writing.{sheet_score};
-ghost use Rattle.line.specs.Doing.{Does};
+ghost use Rattle.line.specs.Doing.{DoesCall};
 
 use crate::line::Line;
 use crate::sample::Sample;
@@ -16,7 +14,7 @@ use worksheet::scoring::score;
 
 impl<B: Book> Line<OnLine, B> {
     pub(crate) fn open_period(&mut self) -> Result<Reply, Refusal>
-        ensures { Does B.Book.entries B.Book.room (step on_line_rules sheet_score open_period) self.old result self.new }
+        ensures { DoesCall B.Book.entries B.Book.room on_line_rules open_period self.old result self.new }
     {
         self.check_open(self.book.room_left())?;
         let taken = self.open_taken();
@@ -25,7 +23,7 @@ impl<B: Book> Line<OnLine, B> {
 
     // Scores the sheet, and judges the portion by it.
     pub(crate) fn enter_portion(&mut self, sheet: &[u8]) -> Result<Reply, Refusal>
-        ensures { Does B.Book.entries B.Book.room (step on_line_rules sheet_score (enter_portion sheet.now)) self.old result self.new }
+        ensures { DoesCall B.Book.entries B.Book.room on_line_rules (enter_portion sheet.now) self.old result self.new }
     {
         let units = self.portion_sample(self.book.room_left())?;
         let tally = score(sheet, units)?;
@@ -34,7 +32,7 @@ impl<B: Book> Line<OnLine, B> {
     }
 
     pub(crate) fn end_period(&mut self) -> Result<Reply, Refusal>
-        ensures { Does B.Book.entries B.Book.room (step on_line_rules sheet_score end_period) self.old result self.new }
+        ensures { DoesCall B.Book.entries B.Book.room on_line_rules end_period self.old result self.new }
     {
         self.check_end(self.book.room_left())?;
         let taken = self.end_taken();

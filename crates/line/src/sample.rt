@@ -14,15 +14,21 @@ pub(crate) struct Sample {
 }
 
 impl Sample {
+    pub(crate) fn of_entry(entry: Entry) -> Sample
+        ensures { result ≡ record { units = entry.units; tally = entry.tally } }
+    {
+        Sample {
+            units: entry.units,
+            tally: entry.tally,
+        }
+    }
+
     // The first sample of a lot's entry, if the lot awaits its second.
     pub(crate) fn of_lot(entry: Entry) -> Option<Sample>
         ensures { result ≡ first_of_lot entry }
     {
         match entry.verdict {
-            Verdict::Awaited => Some(Sample {
-                units: entry.units,
-                tally: entry.tally,
-            }),
+            Verdict::Awaited => Some(Sample::of_entry(entry)),
             _ => None,
         }
     }
@@ -31,6 +37,6 @@ impl Sample {
     pub(crate) fn can_be(self) -> bool
         ensures { result ≡ nat_le (total_of self.tally) (9 * self.units) }
     {
-        self.tally.total() <= 9 * self.units as u64
+        self.tally.total() <= 9 * u64::from(self.units)
     }
 }

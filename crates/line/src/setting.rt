@@ -1,10 +1,9 @@
 // Setting a line on a book: its entries are replayed, each as the call that would have written it.
 ghost use Rattle.std.specs.Prelude.{◌≡◌, ◌<◌, true, false, [], length, take, Some};
 ghost use Rattle.runs.specs.History.{open_period, enter_portion, end_period, enter_lot, enter_second, grant_relief, report_irregular};
-ghost use Rattle.runs.specs.Lines.{due_number, refuses, takes};
-ghost use Rattle.runs.specs.Writing.{sheet_score};
+ghost use Rattle.runs.specs.Lines.{due_number};
 ghost use Rattle.runs.specs.Runs.{call_for, unsound_at, replay_one, replay};
-ghost use Rattle.line.specs.Replaying.{sample_showing, taken_unless, left_by, retaken_by, retaken};
+ghost use Rattle.line.specs.Replaying.{sample_showing, left_by, retaken_call, retaken_by, retaken};
 
 use crate::line::Line;
 use crate::sample::Sample;
@@ -52,28 +51,28 @@ where
     R::Carried: Copy,
 {
     fn open_retaken(&self) -> Option<Taken<R::Carried>>
-        ensures { result ≡ taken_unless (refuses (R.Regime.rules self.now.regime) sheet_score open_period self.now.standing [] 1) (takes (R.Regime.rules self.now.regime) sheet_score open_period self.now.standing []) }
+        ensures { result ≡ retaken_call (R.Regime.rules self.now.regime) open_period self.now.standing [] }
     {
         self.check_open(1).ok()?;
         Some(self.open_taken())
     }
 
     fn end_retaken(&self) -> Option<Taken<R::Carried>>
-        ensures { result ≡ taken_unless (refuses (R.Regime.rules self.now.regime) sheet_score end_period self.now.standing [] 1) (takes (R.Regime.rules self.now.regime) sheet_score end_period self.now.standing []) }
+        ensures { result ≡ retaken_call (R.Regime.rules self.now.regime) end_period self.now.standing [] }
     {
         self.check_end(1).ok()?;
         Some(self.end_taken())
     }
 
     fn relief_retaken(&self, before: u32) -> Option<Taken<R::Carried>>
-        ensures { result ≡ taken_unless (refuses (R.Regime.rules self.now.regime) sheet_score grant_relief self.now.standing (take before (B.Book.entries self.now.book)) 1) (takes (R.Regime.rules self.now.regime) sheet_score grant_relief self.now.standing []) }
+        ensures { result ≡ retaken_call (R.Regime.rules self.now.regime) grant_relief self.now.standing (take before (B.Book.entries self.now.book)) }
     {
         self.check_relief(before, 1).ok()?;
         Some(self.relief_taken())
     }
 
     fn notice_retaken(&self) -> Option<Taken<R::Carried>>
-        ensures { result ≡ taken_unless (refuses (R.Regime.rules self.now.regime) sheet_score report_irregular self.now.standing [] 1) (takes (R.Regime.rules self.now.regime) sheet_score report_irregular self.now.standing []) }
+        ensures { result ≡ retaken_call (R.Regime.rules self.now.regime) report_irregular self.now.standing [] }
     {
         self.check_notice(1).ok()?;
         Some(self.notice_taken())

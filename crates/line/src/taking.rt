@@ -4,15 +4,15 @@ ghost use Rattle.std.specs.Option.{ok_or};
 ghost use Rattle.inspection.specs.declared.refusal.Refusal.TheVariants as refused;
 ghost use Rattle.books.specs.Books.{answered};
 ghost use Rattle.runs.specs.History.{first, is_rejected, open_period, end_period, hand_in, reissue as reissuing, grant_relief, report_irregular};
-ghost use Rattle.runs.specs.Lines.{in_window, bare, fullness, is_due, due_size, slip_of, one_more, sample, told, turned_to, refuses, takes, portion_taken};
+ghost use Rattle.runs.specs.Lines.{in_window, bare, fullness, is_due, due_size, slip_of, one_more, sample, told, turned_to, portion_taken};
 ghost use Rattle.runs.specs.Spells.{turned as turning};
-ghost use Rattle.runs.specs.Writing.{sheet_score};
 ghost use Rattle.line.specs.Seeing.{seen_of, seen_refusal};
-ghost use Rattle.line.specs.Doing.{lot_taken_at, lot_awaited, second_taken_at, article_noted, turned_by, unsound_refusal, portion_sample, lot_sample, second_sample};
+ghost use Rattle.line.specs.Doing.{checked, taken_by, lot_taken_at, lot_awaited, second_taken_at, article_noted, turned_by, unsound_refusal, portion_sample, lot_sample, second_sample};
 
+use crate::earlier::Earlier;
 use crate::line::Line;
-use crate::looking::Seen;
 use crate::sample::Sample;
+use crate::seen::Seen;
 use books::book::Book;
 use entries::entry::Entry;
 use inspection::kind::Kind;
@@ -93,16 +93,16 @@ where
     fn check_sound(&self) -> Result<(), Refusal>
         ensures { result ≡ answered (unsound_refusal self.now.standing.unsound) }
     {
-        match self.standing.unsound {
-            Some(entry) => Err(Refusal::BookUnsound {
+        if let Some(entry) = self.standing.unsound {
+            return Err(Refusal::BookUnsound {
                 entry: entry as usize,
-            }),
-            None => Ok(()),
+            });
         }
+        Ok(())
     }
 
     pub(crate) fn check_open(&self, room: u32) -> Result<(), Refusal>
-        ensures { result ≡ answered (refuses (R.Regime.rules self.now.regime) sheet_score open_period self.now.standing [] room) }
+        ensures { result ≡ checked (R.Regime.rules self.now.regime) open_period self.now.standing [] room }
     {
         self.check_sound()?;
         if self.standing.period.is_some() {
@@ -112,7 +112,7 @@ where
     }
 
     pub(crate) fn open_taken(&self) -> Taken<R::Carried>
-        ensures { result ≡ takes (R.Regime.rules self.now.regime) sheet_score open_period self.now.standing [] }
+        ensures { result ≡ taken_by (R.Regime.rules self.now.regime) open_period self.now.standing [] }
     {
         let status = self.standing.status;
         let standing = Standing {
@@ -127,7 +127,7 @@ where
     }
 
     pub(crate) fn check_end(&self, room: u32) -> Result<(), Refusal>
-        ensures { result ≡ answered (refuses (R.Regime.rules self.now.regime) sheet_score end_period self.now.standing [] room) }
+        ensures { result ≡ checked (R.Regime.rules self.now.regime) end_period self.now.standing [] room }
     {
         self.check_sound()?;
         if self.standing.period.is_none() {
@@ -137,7 +137,7 @@ where
     }
 
     pub(crate) fn end_taken(&self) -> Taken<R::Carried>
-        ensures { result ≡ takes (R.Regime.rules self.now.regime) sheet_score end_period self.now.standing [] }
+        ensures { result ≡ taken_by (R.Regime.rules self.now.regime) end_period self.now.standing [] }
     {
         let verdict = period_verdict(self.standing.period);
         let standing = Standing {
@@ -251,13 +251,13 @@ where
     }
 
     pub(crate) fn relief_taken(&self) -> Taken<R::Carried>
-        ensures { result ≡ takes (R.Regime.rules self.now.regime) sheet_score grant_relief self.now.standing [] }
+        ensures { result ≡ taken_by (R.Regime.rules self.now.regime) grant_relief self.now.standing [] }
     {
         self.turned_to(Kind::Relief, Status::Reduced)
     }
 
     pub(crate) fn notice_taken(&self) -> Taken<R::Carried>
-        ensures { result ≡ takes (R.Regime.rules self.now.regime) sheet_score report_irregular self.now.standing [] }
+        ensures { result ≡ taken_by (R.Regime.rules self.now.regime) report_irregular self.now.standing [] }
     {
         self.turned_to(Kind::IrregularNotice, Status::Normal)
     }
@@ -271,7 +271,7 @@ where
     }
 
     pub(crate) fn check_notice(&self, room: u32) -> Result<(), Refusal>
-        ensures { result ≡ answered (refuses (R.Regime.rules self.now.regime) sheet_score report_irregular self.now.standing [] room) }
+        ensures { result ≡ checked (R.Regime.rules self.now.regime) report_irregular self.now.standing [] room }
     {
         self.check_sound()?;
         self.check_no_lot()?;
@@ -331,10 +331,9 @@ where
     fn has_slip(&self, number: u32) -> bool
         ensures { result ≡ (if self.now.standing.slip_out then is_due number self.now.standing.waiting else false) }
     {
-        match self.standing.waiting {
-            Some(lot) => self.standing.slip_out && lot.number == number,
-            None => false,
-        }
+        self.standing
+            .waiting
+            .is_some_and(|lot| self.standing.slip_out && lot.number == number)
     }
 
     // The size of the waiting lot.
@@ -386,7 +385,7 @@ where
     }
 
     pub(crate) fn check_hand_in(&self, number: u32) -> Result<(), Refusal>
-        ensures { result ≡ answered (refuses (R.Regime.rules self.now.regime) sheet_score (hand_in number) self.now.standing [] 0) }
+        ensures { result ≡ checked (R.Regime.rules self.now.regime) (hand_in number) self.now.standing [] 0 }
     {
         self.check_sound()?;
         if !self.has_slip(number) {
@@ -396,7 +395,7 @@ where
     }
 
     pub(crate) fn check_reissue(&self) -> Result<(), Refusal>
-        ensures { result ≡ answered (refuses (R.Regime.rules self.now.regime) sheet_score reissuing self.now.standing [] 0) }
+        ensures { result ≡ checked (R.Regime.rules self.now.regime) reissuing self.now.standing [] 0 }
     {
         self.check_sound()?;
         if self.standing.waiting.is_none() {
@@ -418,10 +417,7 @@ where
         let Some(limits) = self.regime.relief_limits(seen.units) else {
             return Err(Refusal::TooFewUnits);
         };
-        if seen.critical > limits.critical as u64
-            || seen.major > limits.major as u64
-            || seen.total > limits.total as u64
-        {
+        if seen.is_above(&limits) {
             return Err(Refusal::DefectsAboveLimit);
         }
         Ok(())
@@ -431,11 +427,11 @@ where
         ensures { result ≡ answered (seen_refusal (R.Regime.rules self.now.regime) (seen_of (in_window (R.Regime.rules self.now.regime) self.now.standing (take before (B.Book.entries self.now.book))))) }
     {
         let most = self.regime.window_length().min(self.standing.spell);
-        self.check_seen(self.look_back(before, most))
+        self.check_seen(Earlier::of(&self.book, before).look_back(most))
     }
 
     pub(crate) fn check_relief(&self, before: u32, room: u32) -> Result<(), Refusal>
-        ensures { result ≡ answered (refuses (R.Regime.rules self.now.regime) sheet_score grant_relief self.now.standing (take before (B.Book.entries self.now.book)) room) }
+        ensures { result ≡ checked (R.Regime.rules self.now.regime) grant_relief self.now.standing (take before (B.Book.entries self.now.book)) room }
     {
         self.check_sound()?;
         self.check_no_lot()?;

@@ -152,9 +152,6 @@ module _ {C : Type 0} (r : Rules C) where
     each_on P [] ds a b = b
     each_on P (c ∷ cs) ds a b = (a.0, each_on P cs ds a.1 b)
 
-    reach_none : (st : Standing C) (es : List Entry) (n : ℕ) → Reaches st es n st es n
-    reach_none st es n = ([], tt, λ h. (refl, refl, refl))
-
     reach_both : {a b c : Standing C} {x y z : List Entry} {i j k : ℕ} → Reaches a x i b y j → Reaches b y j c z k → Reaches a x i c z k
     reach_both {a} {b} {c} {x} {y} {z} {i} {j} {k} p q = (
       p.0 ++ q.0,

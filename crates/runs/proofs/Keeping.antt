@@ -15,7 +15,7 @@ use Rattle.runs.specs.Spells.{breaks}
 use Rattle.inspection.specs.Statuses.{same_status}
 use Rattle.plans.specs.declared.rows.LotRow.{LotRow}
 use Rattle.runs.specs.declared.standing.Reply.{Reply}
-use Rattle.runs.specs.History.{Call, open_period, enter_portion, end_period, enter_lot, enter_second, hand_in, reissue, grant_relief, report_irregular, period_after, Event, Fixed, Article, Waiting, status, count, waiting, written, article, entry_of, decided, waiting_after, spell, verdicts, units_of, above, period, slip_out, refusal, first_units, first, listed, writes, with_article}
+use Rattle.runs.specs.History.{Call, open_period, enter_portion, end_period, enter_lot, enter_second, hand_in, reissue, grant_relief, report_irregular, period_after, Event, Fixed, Article, Waiting, status, count, waiting, written, article, entry_of, decided, waiting_after, spell, verdicts, units_of, above, period, slip_is_out, refusal, first_units, first, listed, writes, with_article}
 use Rattle.runs.specs.Earned.{refused_with, Ruled, PortionEarned, FirstToBreak, ByArticle, Turned, Earned}
 use Rattle.regimes.specs.Rules.{Rules}
 use Rattle.runs.specs.declared.standing.Standing.{Standing}
@@ -260,7 +260,7 @@ sound_refused f h c x k =
 
 -- the standing that a history tells of, given the numbers that it carries
 abbrev pub standing_of : {C : Type 0} → Fixed → (List Event → C) → List Event → Standing C
-standing_of f carried h = record { status = status h; spell = length (spell f h); period = period f h; waiting = due_of (waiting f h); slip_out = slip_out f h; carried = carried h; unsound = None }
+standing_of f carried h = record { status = status h; spell = length (spell f h); period = period f h; waiting = due_of (waiting f h); slip_out = slip_is_out f h; carried = carried h; unsound = None }
 
 pub same_standing : {C : Type 0} (a b : Standing C) → a.status ≡ b.status → a.spell ≡ b.spell → a.period ≡ b.period → a.waiting ≡ b.waiting → a.slip_out ≡ b.slip_out → a.carried ≡ b.carried → a.unsound ≡ b.unsound → a ≡ b
 same_standing a b e1 e2 e3 e4 e5 e6 e7 = λ i. record { status = e1 i; spell = e2 i; period = e3 i; waiting = e4 i; slip_out = e5 i; carried = e6 i; unsound = e7 i }
@@ -387,7 +387,7 @@ module _ {C : Type 0} (r : Rules C) (row : Status → ℕ → Option LotRow) (sc
     -- the rest of a run, from a standing that is read off the history so far
     module _ (P : Call → Type 0) (each : (h : List Event) (c : Call) (n : ℕ) → P c → Sound fx h → Extra h → n + count h ≡ room → Kept h c (step r score c (now carried h) (book_of h) n)) where
       pub earned_on : (cs : List Call) (h : List Event) (st : Standing C) (es : List Entry) (n : ℕ) → Each P cs → AllFair fx h → Sound fx h → Extra h → n + count h ≡ room → st ≡ now carried h → es ≡ book_of h
-          → Earned fx (go r score cs h st es n).events (go r score cs h st es n).entries (go r score cs h st es n).room × ((go r score cs h st es n).standing.slip_out ≡ slip_out fx (go r score cs h st es n).events)
+          → Earned fx (go r score cs h st es n).events (go r score cs h st es n).entries (go r score cs h st es n).room × ((go r score cs h st es n).standing.slip_out ≡ slip_is_out fx (go r score cs h st es n).events)
       earned_on [] h st es n p a k x rm e1 e2 =
           (earned_from fx h es n a e2 (ap (λ t. n + length t) e2 ∙ ap (λ t. n + t) k.counted ∙ rm), ap (λ (s : Standing C). s.slip_out) e1)
       earned_on (c ∷ cs) h st es n p a k x rm e1 e2 =

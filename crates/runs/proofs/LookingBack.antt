@@ -1,13 +1,13 @@
 -- Reading entries from the newest back gives what reading them forward gives; and how the reading of a front grows by its next entry.
-use Rattle.std.proofs.Common.{◌≡◌, ℕ, zero, suc, ◌+◌, ◌-◌, ◌<◌, ◌≤◌, Bool, true, false, cond, List, [], ◌∷◌, ◌++◌, reverse, length, get_or, take, drop, Some, None, Option, sym, refl, ap, ◌∙◌, arith}
+use Rattle.std.proofs.Common.{◌≡◌, ℕ, zero, suc, ◌+◌, ◌-◌, Bool, true, false, cond, List, [], ◌∷◌, ◌++◌, reverse, length, take, drop, Some, None, Option, sym, refl, ap, ◌∙◌, arith}
 use mathlib.Core.List.{reverse-cons}
-use Rattle.std.proofs.lemmas.List.{length-append, length-drop, length-reverse, take-append-drop, reverse-append, reverse-reverse, drop_at, drop-append-le, drop_all, take_more}
+use Rattle.std.proofs.lemmas.List.{length-append, length-drop, length-reverse, take-append-drop, reverse-append, reverse-reverse, drop_at, drop-append-le, drop_all}
 use Rattle.inspection.specs.declared.kind.Kind.{Kind}
 use Rattle.inspection.specs.declared.kind.Kind.TheVariants as kind
 use Rattle.entries.specs.declared.entry.Entry.{Entry}
 use Rattle.regimes.specs.Lots.{added}
 use Rattle.runs.specs.History.{Article, is_awaited, is_rejected}
-use Rattle.runs.specs.Lines.{Sample, Reading, sole, both, read_by, reading, articles, last_articles}
+use Rattle.runs.specs.Lines.{Sample, Reading, sole, read_by, reading, last_articles}
 use Rattle.runs.specs.LookingBack.{sample_back, first_sample_back, article_back, articles_back, latest_back, ReadBackAsForward}
 use Rattle.runs.proofs.Small.{reading_push}
 
@@ -84,93 +84,11 @@ read_back_as_forward es =
       the_last = λ n. ap reverse (latest_takes n (reverse es)) ∙ last_turned n (articles_back (reverse es)) ∙ ap (last_articles n) (sym (ap (λ (x : Reading). x.articles) back));
     }
 
--- the reading of a front of the entries, one entry longer
-pub reading_more : (es : List Entry) (i : ℕ) (d : Entry) → i < length es → reading (take (i + 1) es) ≡ read_by (get_or es i d).kind (get_or es i d) (reading (take i es))
-reading_more es i d lt = ap reading (take_more es i d lt) ∙ reading_push start (take i es) (get_or es i d)
-
-module _ (es : List Entry) (i : ℕ) (d : Entry) (lt : i < length es) where
-  abbrev next_entry : Entry
-  next_entry = get_or es i d
-
-  abbrev before : Reading
-  before = reading (take i es)
-
-  abbrev after : Reading
-  after = reading (take (i + 1) es)
-
-  by_kind : (k : Kind) → next_entry.kind ≡ k → after ≡ read_by k next_entry before
-  by_kind k e = reading_more es i d lt ∙ ap (λ k. read_by k next_entry before) e
-
-  -- kinds that decide nothing are passed over
-  pub reading_more_opened : (get_or es i d).kind ≡ kind.PeriodOpened → reading (take (i + 1) es) ≡ reading (take i es)
-  reading_more_opened e = by_kind kind.PeriodOpened e
-
-  pub reading_more_ended : (get_or es i d).kind ≡ kind.PeriodEnded → reading (take (i + 1) es) ≡ reading (take i es)
-  reading_more_ended e = by_kind kind.PeriodEnded e
-
-  pub reading_more_relief : (get_or es i d).kind ≡ kind.Relief → reading (take (i + 1) es) ≡ reading (take i es)
-  reading_more_relief e = by_kind kind.Relief e
-
-  pub reading_more_notice : (get_or es i d).kind ≡ kind.IrregularNotice → reading (take (i + 1) es) ≡ reading (take i es)
-  reading_more_notice e = by_kind kind.IrregularNotice e
-
-  pub reading_more_spoiled : (get_or es i d).kind ≡ kind.Spoiled → reading (take (i + 1) es) ≡ reading (take i es)
-  reading_more_spoiled e = by_kind kind.Spoiled e
-
-  -- a portion
-  pub articles_more_portion : (get_or es i d).kind ≡ kind.Portion → articles (take (i + 1) es) ≡ articles (take i es) ++ sole (get_or es i d) ∷ []
-  articles_more_portion e = ap (λ (x : Reading). x.articles) (by_kind kind.Portion e)
-
-  pub first_more_portion : (get_or es i d).kind ≡ kind.Portion → (reading (take (i + 1) es)).first_sample ≡ (reading (take i es)).first_sample
-  first_more_portion e = ap (λ (x : Reading). x.first_sample) (by_kind kind.Portion e)
-
-  -- a lot, answered W or decided
-  lot_as : (b : Bool) → (get_or es i d).kind ≡ kind.Lot → is_awaited (get_or es i d).verdict ≡ b
-      → after ≡ cond b (record { articles = before.articles; first_sample = Some (record { units = next_entry.units; tally = next_entry.tally }) }) (record { articles = before.articles ++ sole next_entry ∷ []; first_sample = None })
-  lot_as b e w = by_kind kind.Lot e ∙ ap (λ b. (let x : Reading = cond b (record { articles = before.articles; first_sample = Some (record { units = next_entry.units; tally = next_entry.tally }) }) (record { articles = before.articles ++ sole next_entry ∷ []; first_sample = None }) in x)) w
-
-  pub articles_more_awaited : (get_or es i d).kind ≡ kind.Lot → is_awaited (get_or es i d).verdict ≡ true → articles (take (i + 1) es) ≡ articles (take i es)
-  articles_more_awaited e w = ap (λ (x : Reading). x.articles) (lot_as true e w)
-
-  pub first_more_awaited : (get_or es i d).kind ≡ kind.Lot → is_awaited (get_or es i d).verdict ≡ true → (reading (take (i + 1) es)).first_sample ≡ Some (record { units = (get_or es i d).units; tally = (get_or es i d).tally })
-  first_more_awaited e w = ap (λ (x : Reading). x.first_sample) (lot_as true e w)
-
-  pub articles_more_lot : (get_or es i d).kind ≡ kind.Lot → is_awaited (get_or es i d).verdict ≡ false → articles (take (i + 1) es) ≡ articles (take i es) ++ sole (get_or es i d) ∷ []
-  articles_more_lot e w = ap (λ (x : Reading). x.articles) (lot_as false e w)
-
-  pub first_more_lot : (get_or es i d).kind ≡ kind.Lot → is_awaited (get_or es i d).verdict ≡ false → (reading (take (i + 1) es)).first_sample ≡ None
-  first_more_lot e w = ap (λ (x : Reading). x.first_sample) (lot_as false e w)
-
-  -- a second sample, with a first one or with none
-  second_as : (o : Option Sample) → (get_or es i d).kind ≡ kind.SecondSample → (reading (take i es)).first_sample ≡ o → after ≡ both o next_entry before.articles
-  second_as o e f = by_kind kind.SecondSample e ∙ ap (λ o. both o next_entry before.articles) f
-
-  pub articles_more_second : (a : Sample) → (get_or es i d).kind ≡ kind.SecondSample → (reading (take i es)).first_sample ≡ Some a
-      → articles (take (i + 1) es) ≡ articles (take i es) ++ record { rejected = is_rejected (get_or es i d).verdict; units = a.units + (get_or es i d).units; tally = added a.tally (get_or es i d).tally } ∷ []
-  articles_more_second a e f = ap (λ (x : Reading). x.articles) (second_as (Some a) e f)
-
-  pub articles_more_stray : (get_or es i d).kind ≡ kind.SecondSample → (reading (take i es)).first_sample ≡ None → articles (take (i + 1) es) ≡ articles (take i es)
-  articles_more_stray e f = ap (λ (x : Reading). x.articles) (second_as None e f)
-
-  pub first_more_second : (get_or es i d).kind ≡ kind.SecondSample → (reading (take (i + 1) es)).first_sample ≡ None
-  first_more_second e = ap (λ (x : Reading). x.first_sample) (by_kind kind.SecondSample e) ∙ by before.first_sample
-    where
-      by : (o : Option Sample) → (both o next_entry before.articles).first_sample ≡ None
-      by None = refl
-      by (Some a) = refl
-
--- the last n articles: none of them, of none, and one article longer
+-- the last n articles: none of them, and one article longer
 pub last_none : (xs : List Article) → last_articles 0 xs ≡ []
 last_none xs = drop_all (length xs - 0) xs (omega arith)
-
-pub last_of_none : (n : ℕ) → last_articles n [] ≡ []
-last_of_none n = drop_all (0 - n) [] (omega arith)
 
 pub last_more : (m : ℕ) (xs : List Article) (a : Article) → last_articles (suc m) (xs ++ a ∷ []) ≡ last_articles m xs ++ a ∷ []
 last_more m xs a =
     let size : length (xs ++ a ∷ []) - suc m ≡ length xs - m = omega (arith, length-append xs (a ∷ [])) in
     ap (λ k. drop k (xs ++ a ∷ [])) size ∙ drop-append-le (length xs - m) xs (a ∷ []) (omega arith)
-
--- all of them, where there are no more
-pub last_all : (n : ℕ) (xs : List Article) → length xs ≤ n → last_articles n xs ≡ xs
-last_all n xs le = let none : length xs - n ≡ 0 = omega arith in ap (λ k. drop k xs) none

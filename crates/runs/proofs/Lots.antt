@@ -15,7 +15,7 @@ use Rattle.runs.specs.Spells.{turned}
 use Rattle.regimes.specs.Lots.{added}
 use Rattle.plans.specs.declared.rows.LotRow.{LotRow}
 use Rattle.runs.specs.declared.standing.Reply.{Reply}
-use Rattle.runs.specs.History.{Call, open_period, enter_portion, end_period, enter_lot, enter_second, hand_in, reissue, grant_relief, report_irregular, Event, Fixed, Article, Waiting, status, count, waiting, spell, slip_out, refusal, first, fault, scored, first_units, second_units, waited_size, is_number, awaits, is_rejected, entry_of, decided, listed}
+use Rattle.runs.specs.History.{Call, open_period, enter_portion, end_period, enter_lot, enter_second, hand_in, reissue, grant_relief, report_irregular, Event, Fixed, Article, Waiting, status, count, waiting, spell, slip_is_out, refusal, first, fault, scored, first_units, second_units, waited_size, is_number, awaits, is_rejected, entry_of, decided, listed}
 use Rattle.plans.specs.Plans.{lot_row_kept}
 use Rattle.regimes.proofs.Samples.{judged_by_numbers}
 use Rattle.regimes.specs.Promises.{FirstJudged, BothJudged}
@@ -131,7 +131,7 @@ module _ (row : Status → ℕ → Option LotRow) (limits : ℕ → Option Limit
 
   second_agrees : (h : List Event) (i : ℕ) (b : List ℕ) (n : ℕ) → Extra h → n + count h ≡ room → refuses rl score (enter_second i b) (st_of h) (bk_of h) n ≡ refusal fl h (enter_second i b)
   second_agrees h i b n x rm =
-      second_first fl (row (status h)) (waiting fl h) (slip_out fl h) i (leb n 0) (λ u. fault (score u b)) (status h) (rowed_at (waiting fl h) x)
+      second_first fl (row (status h)) (waiting fl h) (slip_is_out fl h) i (leb n 0) (λ u. fault (score u b)) (status h) (rowed_at (waiting fl h) x)
       ∙ ap (λ m. first ((not (awaits fl i h), NoLotAwaits) ∷ (m, NoRoom) ∷ []) (fault (score (second_units (row (status h) (waited_size fl (waiting fl h)))) b))) (room_test n (count h) room rm)
     where
       rowed_at : (w : Option Waiting) → rowed row (status h) w ≡ true → rowed (λ _ z. row (status h) z) (status h) w ≡ true
@@ -139,10 +139,10 @@ module _ (row : Status → ℕ → Option LotRow) (limits : ℕ → Option Limit
       rowed_at (Some l) e = e
 
   hand_agrees : (h : List Event) (i n : ℕ) → refuses rl score (hand_in i) (st_of h) (bk_of h) n ≡ refusal fl h (hand_in i)
-  hand_agrees h i n = ap (λ q. first ((not (cond (slip_out fl h) q false), NoLotAwaits) ∷ []) None) (due_number_same fl i (waiting fl h))
+  hand_agrees h i n = ap (λ q. first ((not (cond (slip_is_out fl h) q false), NoLotAwaits) ∷ []) None) (due_number_same fl i (waiting fl h))
 
   reissue_agrees : (h : List Event) (n : ℕ) → refuses rl score reissue (st_of h) (bk_of h) n ≡ refusal fl h reissue
-  reissue_agrees h n = ap (λ q. first ((not q, NoLotAwaits) ∷ (slip_out fl h, SlipIsOut) ∷ []) None) (due_some (waiting fl h))
+  reissue_agrees h n = ap (λ q. first ((not q, NoLotAwaits) ∷ (slip_is_out fl h, SlipIsOut) ∷ []) None) (due_some (waiting fl h))
 
   hand_kept : (h : List Event) (i n : ℕ) → Sound fl h → Extra h → n + count h ≡ room → refusal fl h (hand_in i) ≡ None → KeptL h (hand_in i) n
   hand_kept h i n k x rm e =
@@ -354,7 +354,7 @@ module _ (row : Status → ℕ → Option LotRow) (limits : ℕ → Option Limit
   second_kept h i b n k x rm e =
       let p1 = passes _ _ _ e in
       let p2 = passes _ _ _ p1.1 in
-      let l = number_some fl (slip_out fl h) i (waiting fl h) (not-false _ p1.0) in
+      let l = number_some fl (slip_is_out fl h) i (waiting fl h) (not-false _ p1.0) in
       let has : option_is_some (row (status h) l.0.size) ≡ true = ap (rowed row (status h)) (sym l.1) ∙ x in
       let w = is_some (row (status h) l.0.size) (not_from_true _ has) in
       second_kept_at h i b n k rm e p2.0 l.0 l.1 w.0 w.1

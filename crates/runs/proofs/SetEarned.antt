@@ -3,7 +3,7 @@ use Rattle.std.proofs.Common.{◌≡◌, ℕ, ◌+◌, ◌≤◌, Bool, true, fa
 use Rattle.inspection.specs.declared.tally.Tally.{Tally}
 use Rattle.entries.specs.declared.entry.Entry.{Entry}
 use Rattle.inspection.specs.declared.refusal.Refusal.{Refusal}
-use Rattle.runs.specs.History.{Call, Event, Fixed, slip_out}
+use Rattle.runs.specs.History.{Call, Event, Fixed, slip_is_out}
 use Rattle.runs.specs.Earned.{Earned}
 use Rattle.regimes.specs.Rules.{Rules}
 use Rattle.runs.specs.declared.standing.Standing.{Standing}
@@ -54,7 +54,7 @@ module _ {C : Type 0} (r : Rules C) (score : ℕ → List ℕ → Result Tally R
       over cs (ev c o.answer ∷ k) h o.standing o.entries o.room
 
   module _ (fixed : ℕ → Fixed) (shows : Shows r score)
-      (earned : (room : ℕ) → room ≤ 9999999 → (calls : List Call) → Each (Served r) calls → Earned (fixed room) (run r score calls room).events (run r score calls room).entries (run r score calls room).room × ((run r score calls room).standing.slip_out ≡ slip_out (fixed room) (run r score calls room).events)) where
+      (earned : (room : ℕ) → room ≤ 9999999 → (calls : List Call) → Each (Served r) calls → Earned (fixed room) (run r score calls room).events (run r score calls room).entries (run r score calls room).room × ((run r score calls room).standing.slip_out ≡ slip_is_out (fixed room) (run r score calls room).events)) where
     pub set_earned : SetEarned r fixed score
     set_earned es room few h =
         let p = set_on_a_run r score shows es room h in

@@ -16,7 +16,7 @@ use Rattle.inspection.specs.Statuses.{same_status}
 use Rattle.regimes.specs.Portions.{portion_units}
 use Rattle.plans.specs.declared.rows.LotRow.{LotRow}
 use Rattle.runs.specs.declared.standing.Reply.{Reply}
-use Rattle.runs.specs.History.{Call, open_period, enter_portion, end_period, enter_lot, enter_second, hand_in, reissue, grant_relief, report_irregular, Event, Fixed, Article, Waiting, status, status_after, count, waiting, waits, written, decided, period, stretch, slip_out, refusal, first, fault, scored, first_units, is_awaited, is_rejected, no_room}
+use Rattle.runs.specs.History.{Call, open_period, enter_portion, end_period, enter_lot, enter_second, hand_in, reissue, grant_relief, report_irregular, Event, Fixed, Article, Waiting, status, status_after, count, waiting, waits, written, decided, period, stretch, slip_is_out, refusal, first, fault, scored, first_units, is_awaited, is_rejected, no_room}
 use Rattle.runs.specs.Earned.{Ruled, PortionEarned, FirstToBreak, ByArticle, Turned, Earned}
 use Rattle.runs.specs.Lines.{told}
 use Rattle.inspection.specs.Classes.{some_class}
@@ -143,12 +143,12 @@ module _ (f : Fixed) (h : List Event) (rw-h : rowed f.row (status h) (waiting f 
       (slips_agree y.verdict y.slip z.slip (count h + 1) x1.1 ((λ e. x2.1.0 (sym v ∙ e)), (λ e. x2.1.1 (λ q. e (v ∙ q)))))
   replies_agree (enter_second n d) y z a b =
       let p1 = passes _ NoLotAwaits _ a.free in
-      let l = number_some f (slip_out f h) n (waiting f h) (not-false _ p1.0) in
+      let l = number_some f (slip_is_out f h) n (waiting f h) (not-false _ p1.0) in
       let w = is_some (f.row (status h) l.0.size) (not_from_true _ (ap (rowed f.row (status h)) (sym l.1) ∙ rw-h)) in
       seconds_agree n d y z a b l.0 w.0 l.1 w.1
   replies_agree (hand_in n) y z a b = same_reply y z (a.ruled.0 ∙ sym b.ruled.0) (a.turned ∙ sym b.turned) (a.ruled.1 ∙ sym b.ruled.1)
   replies_agree reissue y z a b =
-      let p = is_some (waiting f h) (passes (not (option_is_some (waiting f h))) NoLotAwaits (first ((slip_out f h, SlipIsOut) ∷ []) None) a.free).0 in
+      let p = is_some (waiting f h) (passes (not (option_is_some (waiting f h))) NoLotAwaits (first ((slip_is_out f h, SlipIsOut) ∷ []) None) a.free).0 in
       same_reply y z (a.ruled.0 ∙ sym b.ruled.0) (a.turned ∙ sym b.turned) (a.ruled.1 p.0 p.1 ∙ sym (b.ruled.1 p.0 p.1))
   replies_agree grant_relief y z a b = same_reply y z (a.ruled.0 ∙ sym b.ruled.0) (a.turned ∙ sym b.turned) (a.ruled.1 ∙ sym b.ruled.1)
   replies_agree report_irregular y z a b = same_reply y z (a.ruled.0 ∙ sym b.ruled.0) (a.turned ∙ sym b.turned) (a.ruled.1 ∙ sym b.ruled.1)

@@ -10,7 +10,7 @@ use Rattle.plans.specs.declared.rows.LotRow.{LotRow}
 use Rattle.regimes.specs.Portions.{on_line_rules}
 use Rattle.regimes.specs.Rules.{Rules}
 use Rattle.regimes.specs.Rules.{Limits}
-use Rattle.runs.specs.History.{Call, Event, Fixed, slip_out}
+use Rattle.runs.specs.History.{Call, Event, Fixed, slip_is_out}
 use Rattle.runs.specs.Earned.{Earned}
 use Rattle.runs.specs.Lines.{with_slip}
 use Rattle.runs.specs.Regimes.{lots_rules, on_line_fixed, lots_fixed}
@@ -23,7 +23,7 @@ abbrev pub EarnedOnLine : Type 0
 EarnedOnLine =
     (score : ℕ → List ℕ → Result Tally Refusal) (room : ℕ) → room ≤ 9999999 → (calls : List Call) → Each ForPortions calls
     → Earned (on_line_fixed score room) (run on_line_rules score calls room).events (run on_line_rules score calls room).entries (run on_line_rules score calls room).room
-    × ((run on_line_rules score calls room).standing.slip_out ≡ slip_out (on_line_fixed score room) (run on_line_rules score calls room).events)
+    × ((run on_line_rules score calls room).standing.slip_out ≡ slip_is_out (on_line_fixed score room) (run on_line_rules score calls room).events)
 
 -- every run of a stationary line from an empty book is earned, where each row of its plan rejects from above what it accepts
 abbrev pub EarnedLots : Type 0
@@ -31,7 +31,7 @@ EarnedLots =
     (row : Status → ℕ → Option LotRow) (limits : ℕ → Option Limits) → ((s : Status) (z : ℕ) (w : LotRow) → row s z ≡ Some w → lot_row_kept w ≡ true)
     → (score : ℕ → List ℕ → Result Tally Refusal) (room : ℕ) → room ≤ 9999999 → (calls : List Call) → Each ForLots calls
     → Earned (lots_fixed row limits score room) (run (lots_rules row limits) score calls room).events (run (lots_rules row limits) score calls room).entries (run (lots_rules row limits) score calls room).room
-    × ((run (lots_rules row limits) score calls room).standing.slip_out ≡ slip_out (lots_fixed row limits score room) (run (lots_rules row limits) score calls room).events)
+    × ((run (lots_rules row limits) score calls room).standing.slip_out ≡ slip_is_out (lots_fixed row limits score room) (run (lots_rules row limits) score calls room).events)
 
 -- a line set on the book that a run wrote stands as the run left its line, but for the slip
 abbrev pub StandsOnItsBook : {C : Type 0} → Rules C → Type 0
@@ -67,7 +67,7 @@ SetOnARun r =
 abbrev pub SetEarned : {C : Type 0} → Rules C → (ℕ → Fixed) → (ℕ → List ℕ → Result Tally Refusal) → Type 0
 SetEarned r fixed score =
     (es : List Entry) (room : ℕ) → length es + room ≤ 9999999 → (replay r es).unsound ≡ None
-    → (before : List Event) × Earned (fixed (length es + room)) before es room × (slip_out (fixed (length es + room)) before ≡ false)
+    → (before : List Event) × Earned (fixed (length es + room)) before es room × (slip_is_out (fixed (length es + room)) before ≡ false)
     × ((calls : List Call) → Each (Served r) calls
     → Earned (fixed (length es + room)) ((go r score calls [] (replay r es) es room).events ++ before) (go r score calls [] (replay r es) es room).entries (go r score calls [] (replay r es) es room).room)
 

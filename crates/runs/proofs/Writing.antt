@@ -152,10 +152,6 @@ module _ (p : PlanBook) where
       by true q e = leb-true z 9999999 q
       by false q e = nothing_inside u e
 
-  -- the same as one asks of the rows that a line is given
-  pub plan_rows_kept : (s : Status) (z : ℕ) (w : LotRow) → row_of_lot s z rows ≡ Some w → lot_row_kept w ≡ true
-  plan_rows_kept s z w e = subst (λ o. IfSome o (λ w. lot_row_kept w ≡ true)) e (plan_kept s z)
-
 pub writes_writable : WritesWritable
 writes_writable = (writes_only on_line_rules sheet_score scores_bounded on_line_few on_line_low, λ p. writes_only (plan_rules p) sheet_score scores_bounded (plan_few p) (plan_low p))
 

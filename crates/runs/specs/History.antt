@@ -266,9 +266,9 @@ module _ (f : Fixed) where
   slip_after grant_relief r o = o
   slip_after report_irregular r o = o
 
-  abbrev pub slip_out : List Event → Bool
-  slip_out [] = false
-  slip_out (e ∷ h) = elim e.answer [ Ok r ↦ slip_after e.call r (slip_out h) | Err x ↦ slip_out h ]
+  abbrev pub slip_is_out : List Event → Bool
+  slip_is_out [] = false
+  slip_is_out (e ∷ h) = elim e.answer [ Ok r ↦ slip_after e.call r (slip_is_out h) | Err x ↦ slip_is_out h ]
 
   abbrev pub no_room : List Event → Bool
   no_room h = nat_le f.room (count h)
@@ -278,7 +278,7 @@ module _ (f : Fixed) where
   is_number k (Some w) = k == w.number
 
   abbrev pub awaits : ℕ → List Event → Bool
-  awaits k h = cond (slip_out h) (is_number k (waiting h)) false
+  awaits k h = cond (slip_is_out h) (is_number k (waiting h)) false
 
   abbrev pub last_window : List Event → List Article
   last_window h = drop (length (spell h) - f.window) (spell h)
@@ -295,6 +295,6 @@ module _ (f : Fixed) where
   refusal h (enter_lot z b) = first ((is_some (waiting h), LotAwaits) ∷ (no_room h, NoRoom) ∷ (not (is_some (f.row (status h) z)), LotSizeOutOfRange) ∷ []) (fault (f.score (first_units (f.row (status h) z)) b))
   refusal h (enter_second k b) = first ((not (awaits k h), NoLotAwaits) ∷ (no_room h, NoRoom) ∷ []) (fault (f.score (second_units (f.row (status h) (waited_size (waiting h)))) b))
   refusal h (hand_in k) = first ((not (awaits k h), NoLotAwaits) ∷ []) None
-  refusal h reissue = first ((not (is_some (waiting h)), NoLotAwaits) ∷ (slip_out h, SlipIsOut) ∷ []) None
+  refusal h reissue = first ((not (is_some (waiting h)), NoLotAwaits) ∷ (slip_is_out h, SlipIsOut) ∷ []) None
   refusal h grant_relief = first ((is_some (waiting h), LotAwaits) ∷ (no_room h, NoRoom) ∷ (not (same_status (status h) Normal), ReliefOffNormal) ∷ (nat_lt (length (spell h)) f.window, SpellTooShort) ∷ (nat_lt f.most_rejected (rejections (verdicts (last_window h))), TooManyRejected) ∷ (not (is_some (f.limits (units_of (last_window h)))), TooFewUnits) ∷ (above (last_window h) (f.limits (units_of (last_window h))), DefectsAboveLimit) ∷ []) None
   refusal h report_irregular = first ((is_some (waiting h), LotAwaits) ∷ (no_room h, NoRoom) ∷ (not (same_status (status h) Reduced), NoticeOffReduced) ∷ []) None

@@ -10,7 +10,7 @@ use Rattle.regimes.specs.Rules.{Rules}
 use Rattle.regimes.specs.Portions.{Values}
 use Rattle.runs.specs.declared.standing.Reply.{Reply}
 use Rattle.runs.specs.Earned.{refused_with, Ruled, PortionEarned, Turned, Earned}
-use Rattle.runs.specs.History.{Call, enter_portion, Event, Fixed, article, refusal, slip_out, written}
+use Rattle.runs.specs.History.{Call, enter_portion, Event, Fixed, article, refusal, slip_is_out, written}
 use Rattle.runs.specs.Lines.{with_slip}
 use Rattle.runs.specs.Regimes.{on_line_fixed, lots_fixed}
 use Rattle.runs.specs.Runs.{Run, go, run, replay, Served, Each}
@@ -71,7 +71,7 @@ BooksTheAccepted C r fixed room x = (x.entries ≡ written (fixed room) x.events
 -- equal answers and slips, and equal entries and room after each call
 pub record TakenUp (C : Type 0) (r : Rules C) (fixed : ℕ → Fixed) (room : ℕ) (x : Run C) : Type 0 where
   pub stands_again : replay r x.entries ≡ with_slip false x.standing
-  pub answers_alike : slip_out (fixed room) x.events ≡ false → (more : List Call) → further r more x ≡ go r sheet_score more [] (replay r x.entries) x.entries x.room
+  pub answers_alike : slip_is_out (fixed room) x.events ≡ false → (more : List Call) → further r more x ≡ go r sheet_score more [] (replay r x.entries) x.entries x.room
 
 abbrev pub EarnedRun : (C : Type 0) → Rules C → (ℕ → Fixed) → ℕ → Run C → Type 0
 EarnedRun C r fixed room x = Earned (fixed room) x.events x.entries x.room
@@ -84,7 +84,7 @@ Settled C r fixed = (room : ℕ) → SettledByCalls (fixed room) (Served r)
 abbrev pub GoesOnEarned : (C : Type 0) → Rules C → (ℕ → Fixed) → Type 0
 GoesOnEarned C r fixed =
     (es : List Entry) (room : ℕ) → Room (length es + room) → (replay r es).unsound ≡ None
-    → (before : List Event) × Earned (fixed (length es + room)) before es room × (slip_out (fixed (length es + room)) before ≡ false)
+    → (before : List Event) × Earned (fixed (length es + room)) before es room × (slip_is_out (fixed (length es + room)) before ≡ false)
     × ((calls : List Call) → Each (Served r) calls
     → Earned (fixed (length es + room)) ((go r sheet_score calls [] (replay r es) es room).events ++ before) (go r sheet_score calls [] (replay r es) es room).entries (go r sheet_score calls [] (replay r es) es room).room)
 

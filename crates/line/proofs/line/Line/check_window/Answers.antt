@@ -10,4 +10,4 @@ returns g c =
     let line = c.args.self.now in
     let xs = articles (take c.args.before (g.B.Book.entries line.book)) in
     c.check_seen.ensures
-    ∙ ap (λ s. answered (seen_refusal (g.R.Regime.rules line.regime) s)) (c.look_back.ensures ∙ ap (λ n. seen_of (last_articles n xs)) (omega (arith, c.min-most.ensures, c.window_length.ensures)) ∙ ap seen_of (sym (last_last _ _ xs)))
+    ∙ ap (λ s. answered (seen_refusal (g.R.Regime.rules line.regime) s)) (c.look_back.ensures ∙ ap (λ l. seen_of (last_articles c.min-most.result (articles l))) c.of.ensures ∙ ap (λ n. seen_of (last_articles n xs)) (omega (arith, c.min-most.ensures, c.window_length.ensures)) ∙ ap seen_of (sym (last_last _ _ xs)))
