@@ -82,8 +82,7 @@ module _ {C : Type 0} (r : Rules C) (st : Standing C) (n : ℕ) where
       (or_zero (sample r st (due_size st.waiting)))
 
 abbrev pub without_lot : {C : Type 0} → Standing C → Standing C
-without_lot st =
-    record { status = st.status; spell = st.spell; period = st.period; waiting = None; slip_out = st.slip_out; carried = st.carried; unsound = st.unsound }
+without_lot st = record st { waiting = None }
 
 -- the entry of a sample and the judge's new numbers, by what the judge answered
 abbrev pub judged_entry : {C : Type 0} → Kind → ℕ → Sample → Verdict × C → Standing C → Entry × C
