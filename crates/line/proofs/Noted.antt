@@ -16,25 +16,13 @@ module _ {C : Type 0} (r : Rules C) (st : Standing C) (entries : List Entry) (re
 
   -- the standing by the answer to the one question
   abbrev pub noted_by : Bool → Standing C
-  noted_by b = record {
-    status = cond b (turned st.status) st.status;
-    spell = cond b 0 (counted_on st.spell);
-    period = st.period;
-    waiting = st.waiting;
-    slip_out = st.slip_out;
-    carried = cond b (r.starts (turned st.status)) c;
-    unsound = st.unsound;
-  }
-
-  abbrev with_parts : Status → ℕ → C → Standing C
-  with_parts s n k =
-      record { status = s; spell = n; period = st.period; waiting = st.waiting; slip_out = st.slip_out; carried = k; unsound = st.unsound }
+  noted_by b = record st { status = cond b (turned st.status) st.status; spell = cond b 0 (counted_on st.spell); carried = cond b (r.starts (turned st.status)) c }
 
   pub noted_turned : (s : Status) (after : Standing C) → s ≡ turned st.status → after ≡ turned_to r s st → true ≡ turning → after ≡ article_noted r st entries rejected c
   noted_turned s after es is e = is ∙ ap (λ s. turned_to r s st) es ∙ ap noted_by e
 
-  pub noted_kept : (n : ℕ) → n ≡ counted_on st.spell → false ≡ turning → with_parts st.status n c ≡ article_noted r st entries rejected c
-  noted_kept n en e = ap (λ m. with_parts st.status m c) en ∙ ap noted_by e
+  pub noted_kept : (n : ℕ) → n ≡ counted_on st.spell → false ≡ turning → (let x : Standing C = record st { spell = n; carried = c } in x) ≡ article_noted r st entries rejected c
+  noted_kept n en e = ap (λ m. (let x : Standing C = record st { spell = m; carried = c } in x)) en ∙ ap noted_by e
 
 -- the last of the last are the last of all
 pub last_last : (n m : ℕ) (xs : List Article) → last_articles n (last_articles m xs) ≡ last_articles (min n m) xs

@@ -9,6 +9,7 @@ use Rattle.inspection.specs.declared.verdict.Verdict.{Verdict}
 use Rattle.inspection.specs.declared.status.Status.{Status}
 use Rattle.inspection.specs.declared.verdict.Verdict.TheVariants.{Awaited, Undecided}
 use Rattle.line.specs.declared.line.Line.{Line}
+use Rattle.line.specs.declared.sample.Sample.{Sample}
 use Rattle.runs.specs.declared.standing.Taken.{Taken}
 use Rattle.entries.specs.declared.entry.Entry.{Entry}
 use Rattle.books.specs.Books.{refusal, answered}
@@ -81,8 +82,11 @@ module _ {C : Type 0} (r : Rules C) (st : Standing C) (n : ℕ) where
       (or_zero (sample r st (due_size st.waiting)))
 
 abbrev pub without_lot : {C : Type 0} → Standing C → Standing C
-without_lot st =
-    record { status = st.status; spell = st.spell; period = st.period; waiting = None; slip_out = st.slip_out; carried = st.carried; unsound = st.unsound }
+without_lot st = record st { waiting = None }
+
+-- the entry of a sample and the judge's new numbers, by what the judge answered
+abbrev pub judged_entry : {C : Type 0} → Kind → ℕ → Sample → Verdict × C → Standing C → Entry × C
+judged_entry k z a x st = (record { kind = k; status = st.status; verdict = x.0; lot_size = z; units = a.units; tally = a.tally }, x.1)
 
 module _ {C : Type 0} (r : Rules C) where
   -- the standing after an article that was rejected or not

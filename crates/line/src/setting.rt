@@ -110,41 +110,20 @@ where
         Some(self.second_taken(before, sample))
     }
 
-    fn retaken_for_portions(&self, before: u32, entry: Entry) -> Option<Taken<R::Carried>>
-        ensures { result ≡ retaken_by (R.Regime.rules self.now.regime) (call_for true entry.kind entry.lot_size (due_number self.now.standing.waiting)) entry self.now.standing (take before (B.Book.entries self.now.book)) }
-    {
-        match entry.kind {
-            Kind::PeriodOpened => self.open_retaken(),
-            Kind::Portion => self.portion_retaken(before, entry),
-            Kind::PeriodEnded => self.end_retaken(),
-            Kind::Relief => self.relief_retaken(before),
-            Kind::IrregularNotice => self.notice_retaken(),
-            Kind::Lot | Kind::SecondSample | Kind::Spoiled => None,
-        }
-    }
-
-    fn retaken_for_lots(&self, before: u32, entry: Entry) -> Option<Taken<R::Carried>>
-        requires { before < length (B.Book.entries self.now.book) }
-        ensures { result ≡ retaken_by (R.Regime.rules self.now.regime) (call_for false entry.kind entry.lot_size (due_number self.now.standing.waiting)) entry self.now.standing (take before (B.Book.entries self.now.book)) }
-    {
-        match entry.kind {
-            Kind::Lot => self.lot_retaken(before, entry),
-            Kind::SecondSample => self.second_retaken(before, entry),
-            Kind::Relief => self.relief_retaken(before),
-            Kind::IrregularNotice => self.notice_retaken(),
-            Kind::PeriodOpened | Kind::Portion | Kind::PeriodEnded | Kind::Spoiled => None,
-        }
-    }
-
     // What the call comes to that would have written the entry, where the line serves and takes it.
     fn retaken(&self, before: u32, entry: Entry) -> Option<Taken<R::Carried>>
         requires { before < length (B.Book.entries self.now.book) }
         ensures { result ≡ retaken (R.Regime.rules self.now.regime) entry self.now.standing (take before (B.Book.entries self.now.book)) }
     {
-        if self.regime.judges_portions() {
-            self.retaken_for_portions(before, entry)
-        } else {
-            self.retaken_for_lots(before, entry)
+        match (entry.kind, self.regime.judges_portions()) {
+            (Kind::PeriodOpened, true) => self.open_retaken(),
+            (Kind::Portion, true) => self.portion_retaken(before, entry),
+            (Kind::PeriodEnded, true) => self.end_retaken(),
+            (Kind::Lot, false) => self.lot_retaken(before, entry),
+            (Kind::SecondSample, false) => self.second_retaken(before, entry),
+            (Kind::Relief, _) => self.relief_retaken(before),
+            (Kind::IrregularNotice, _) => self.notice_retaken(),
+            _ => None,
         }
     }
 

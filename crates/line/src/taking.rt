@@ -7,7 +7,7 @@ ghost use Rattle.runs.specs.History.{first, is_rejected, open_period, end_period
 ghost use Rattle.runs.specs.Lines.{in_window, bare, fullness, is_due, due_size, slip_of, one_more, sample, told, turned_to, portion_taken};
 ghost use Rattle.runs.specs.Spells.{turned as turning};
 ghost use Rattle.line.specs.Seeing.{seen_of, seen_refusal};
-ghost use Rattle.line.specs.Doing.{checked, taken_by, lot_taken_at, lot_awaited, second_taken_at, article_noted, turned_by, unsound_refusal, portion_sample, lot_sample, second_sample};
+ghost use Rattle.line.specs.Doing.{checked, taken_by, judged_entry, lot_taken_at, lot_awaited, second_taken_at, article_noted, turned_by, unsound_refusal, portion_sample, lot_sample, second_sample};
 
 use crate::earlier::Earlier;
 use crate::line::Line;
@@ -203,30 +203,35 @@ where
         }
     }
 
-    // The judge's verdict on a sample of a lot of the size, and what it carries after it.
-    fn judged(&self, size: u32, tally: Tally) -> (Verdict, R::Carried)
-        ensures { result ≡ (R.Regime.rules self.now.regime).judged self.now.standing.status size tally self.now.standing.carried }
+    // The entry of a sample of a lot of the size, with the judge's verdict, and what the judge carries after it.
+    fn judged(&self, kind: Kind, size: u32, sample: Sample) -> (Entry, R::Carried)
+        ensures { result ≡ judged_entry kind size sample ((R.Regime.rules self.now.regime).judged self.now.standing.status size sample.tally self.now.standing.carried) self.now.standing }
     {
-        self.regime
-            .decide(self.standing.status, size, tally, self.standing.carried)
+        let Sample { units, tally } = sample;
+        let Standing {
+            status,
+            carried,
+            ..
+        } = self.standing;
+        let (verdict, carried) = self.regime.decide(status, size, tally, carried);
+        let entry = Entry {
+            kind,
+            status,
+            verdict,
+            lot_size: size,
+            units,
+            tally,
+        };
+        (entry, carried)
     }
 
     pub(crate) fn portion_taken(&self, before: u32, sample: Sample) -> Taken<R::Carried>
         ensures { result ≡ portion_taken (R.Regime.rules self.now.regime) sample.units sample.tally ((R.Regime.rules self.now.regime).judged self.now.standing.status 0 sample.tally self.now.standing.carried) self.now.standing (take before (B.Book.entries self.now.book)) }
     {
-        let Sample { units, tally } = sample;
-        let (verdict, carried) = self.judged(0, tally);
-        let entry = Entry {
-            kind: Kind::Portion,
-            status: self.standing.status,
-            verdict,
-            lot_size: 0,
-            units,
-            tally,
-        };
+        let (entry, carried) = self.judged(Kind::Portion, 0, sample);
         let standing = Standing {
             period: one_more(self.standing.period),
-            ..self.after_article(before, verdict, carried)
+            ..self.after_article(before, entry.verdict, carried)
         };
         written(entry, standing)
     }
@@ -285,22 +290,13 @@ where
     pub(crate) fn lot_taken(&self, before: u32, size: u32, sample: Sample) -> Taken<R::Carried>
         ensures { result ≡ lot_taken_at (R.Regime.rules self.now.regime) before size sample.units sample.tally self.now.standing (take before (B.Book.entries self.now.book)) }
     {
-        let Sample { units, tally } = sample;
-        let (verdict, carried) = self.judged(size, tally);
-        let entry = Entry {
-            kind: Kind::Lot,
-            status: self.standing.status,
-            verdict,
-            lot_size: size,
-            units,
-            tally,
-        };
-        if verdict == Verdict::Awaited {
+        let (entry, carried) = self.judged(Kind::Lot, size, sample);
+        if entry.verdict == Verdict::Awaited {
             return self.lot_awaited(before, carried, entry);
         }
         let standing = Standing {
             waiting: None,
-            ..self.after_article(before, verdict, carried)
+            ..self.after_article(before, entry.verdict, carried)
         };
         written(entry, standing)
     }
@@ -365,21 +361,11 @@ where
     pub(crate) fn second_taken(&self, before: u32, sample: Sample) -> Taken<R::Carried>
         ensures { result ≡ second_taken_at (R.Regime.rules self.now.regime) sample.units sample.tally self.now.standing (take before (B.Book.entries self.now.book)) }
     {
-        let Sample { units, tally } = sample;
-        let size = self.waiting_size();
-        let (verdict, carried) = self.judged(size, tally);
-        let entry = Entry {
-            kind: Kind::SecondSample,
-            status: self.standing.status,
-            verdict,
-            lot_size: size,
-            units,
-            tally,
-        };
+        let (entry, carried) = self.judged(Kind::SecondSample, self.waiting_size(), sample);
         let standing = Standing {
             waiting: None,
             slip_out: false,
-            ..self.after_article(before, verdict, carried)
+            ..self.after_article(before, entry.verdict, carried)
         };
         written(entry, standing)
     }

@@ -129,14 +129,14 @@ left (Some e) n = n - 1
 
 module _ {C : Type 0} where
   abbrev pub with_slip : Bool → Standing C → Standing C
-  with_slip o st = record { status = st.status; spell = st.spell; period = st.period; waiting = st.waiting; slip_out = o; carried = st.carried; unsound = st.unsound }
+  with_slip o st = record st { slip_out = o }
 
   abbrev pub in_period : Option ℕ → C → Standing C → Standing C
-  in_period p c st = record { status = st.status; spell = st.spell; period = p; waiting = st.waiting; slip_out = st.slip_out; carried = c; unsound = st.unsound }
+  in_period p c st = record st { period = p; carried = c }
 
   -- a lot's first sample is answered W: the lot waits under its entry number, and its slip is out
   abbrev pub awaiting : ℕ → ℕ → C → Standing C → Standing C
-  awaiting n z c st = record { status = st.status; spell = st.spell; period = st.period; waiting = Some (record { number = n; size = z }); slip_out = true; carried = c; unsound = st.unsound }
+  awaiting n z c st = record st { waiting = Some (record { number = n; size = z }); slip_out = true; carried = c }
 
   abbrev pub settled : Option Refusal → Taken C → Standing C → List Entry → ℕ → Outcome C
   settled (Some x) k st es n = record { answer = Err x; standing = st; entries = es; room = n }
@@ -176,7 +176,7 @@ module _ {C : Type 0} (r : Rules C) where
 
   -- the status turned by relief or notice
   abbrev pub turned_to : Status → Standing C → Standing C
-  turned_to s st = record { status = s; spell = 0; period = st.period; waiting = st.waiting; slip_out = st.slip_out; carried = r.starts s; unsound = st.unsound }
+  turned_to s st = record st { status = s; spell = 0; carried = r.starts s }
 
   -- a portion of u units with the tally t, and the judge's verdict and new numbers
   abbrev pub portion_taken : ℕ → Tally → Verdict × C → Standing C → List Entry → Taken C

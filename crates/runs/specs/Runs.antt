@@ -95,7 +95,7 @@ showing t u b = cond (nat_le (count_of Total t) (9 * u)) (Ok t) (Err (SheetLineN
 
 module _ {C : Type 0} where
   abbrev pub unsound_at : ℕ → Standing C → Standing C
-  unsound_at n st = record { status = st.status; spell = st.spell; period = st.period; waiting = st.waiting; slip_out = false; carried = st.carried; unsound = Some n }
+  unsound_at n st = record st { slip_out = false; unsound = Some n }
 
   -- whether the call came to the entry e, and where it left the line, with no slip out
   abbrev pub held_to : Entry → Option Refusal → Taken C → Standing C → Standing C
