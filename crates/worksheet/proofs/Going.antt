@@ -2,6 +2,8 @@
 use Rattle.std.proofs.Common.{◌≡◌, ℕ, ◌+◌, ◌-◌, ◌*◌, ◌<◌, ◌≤◌, Bool, true, false, cond, ◌&&◌, ◌||◌, eqb, ltb, ◌⊎◌, List, [], ◌∷◌, IfOk, Some, None, Ok, Err, Option, Result, sym, refl, ap, ◌∙◌, subst, arith}
 use Rattle.std.proofs.lemmas.Bool.{ltb-false, or_from}
 use Rattle.std.proofs.lemmas.Bool.Decides.{nat_tests}
+use Rattle.std.specs.List.{cons_option}
+use Rattle.std.specs.Option.{option_or}
 use Rattle.inspection.specs.Tallies.{total_of}
 use Rattle.inspection.specs.declared.refusal.Refusal.{Refusal}
 use Rattle.inspection.specs.declared.refusal.Refusal.TheVariants.{UnitAboveSample, PairFalls}
@@ -12,7 +14,7 @@ use Rattle.texts.specs.Pieces.{Piece, number_of, pieces}
 use Rattle.worksheet.specs.Defects.{Keyed, Pair, pair, same_pair, related, falls, defect_of}
 use Rattle.worksheet.specs.Promises.{AtMostNine}
 use Rattle.worksheet.specs.Running.{counted, next_line, entered, closed}
-use Rattle.worksheet.specs.Scores.{falls_after, fault_of, fault, or_else, first_bad, said, defects, occurs, tally_of, unless, score_of}
+use Rattle.worksheet.specs.Scores.{falls_after, fault_of, fault, first_bad, defects, occurs, tally_of, unless, score_of}
 use Rattle.worksheet.proofs.Tallying.{clean, plus, plus_clean, counted_plus, counted_clean, total_counted, pair_same, merged, tally_merged, tally_fresh}
 use Rattle.worksheet.proofs.Written.{piece_back}
 
@@ -57,19 +59,19 @@ sound units last n (Some d) h = by (ltb units d.unit) refl (falls_after last d) 
     by false u true f h = cc
     by false u false f h = record { says = d; is = refl; within = ltb-false units d.unit u; on = f }
 
-or_else_none : (a b : Option Refusal) → or_else a b ≡ None → (a ≡ None) × (b ≡ None)
-or_else_none a b h = grind arith
+option_or_none : (a b : Option Refusal) → option_or a b ≡ None → (a ≡ None) × (b ≡ None)
+option_or_none a b h = grind arith
 
 -- on lines that do not fall, what comes before a line's pair does not come after it
 never_again : (units : ℕ) (d : Defect) (ps : List Piece) (q : Pair) → Below q d → first_bad units (Some d) ps ≡ None → occurs q (defects ps) ≡ false
 never_again units d [] q lt h = refl
 never_again units d (p ∷ ps) q lt h =
-    let parts = or_else_none (fault units (Some d) p) _ h in
+    let parts = option_or_none (fault units (Some d) p) _ h in
     let line = sound units (Some d) (number_of p) (defect_of p) parts.0 in
     let e = line.says in
     let later = below_later q d e lt line.on in
     let rest = never_again units e ps q later (ap (λ o. first_bad units o ps) (sym line.is) ∙ parts.1) in
-    ap (λ o. occurs q (said o (defects ps))) line.is ∙ or_from _ _ (below_apart q e later) rest
+    ap (λ o. occurs q (cons_option o (defects ps))) line.is ∙ or_from _ _ (below_apart q e later) rest
 
 falls_like : (d b c : Defect) → pair b ≡ pair c → falls d b ≡ falls d c
 falls_like d b c e = ap (λ (q : Pair). ltb d.unit q.0 || (eqb d.unit q.0 && ltb d.cause q.1)) e
@@ -106,7 +108,7 @@ one_more units ps ih t b d f = by (related b d) refl
 -- a further line that says o, with the fault x by the running score and y by the rule
 abbrev Step : ℕ → List Piece → Tally → Defect → Option Defect → Option Refusal → Option Refusal → Type 0
 Step units ps t b o x y =
-    turn x o (λ d. going units (next_line t b d) ps) ≡ unless (or_else y (first_bad units o ps)) (plus t (tally_of (b ∷ said o (defects ps))))
+    turn x o (λ d. going units (next_line t b d) ps) ≡ unless (option_or y (first_bad units o ps)) (plus t (tally_of (b ∷ cons_option o (defects ps))))
 
 goes_on : (units : ℕ) (ps : List Piece) → GoesOn units ps
 goes_on units [] t b c e = ap Ok (sym (counted_clean t b.class) ∙ ap (plus t) (sym (tally_fresh b [] refl)))
@@ -129,11 +131,11 @@ pub goes_whole : (units : ℕ) (ps : List Piece) → going units start ps ≡ un
 goes_whole units [] = refl
 goes_whole units (p ∷ ps) = by (defect_of p)
   where
-    tests : (d : Defect) (x : Bool) → turn (wrong (number_of p) x false) (Some d) (λ d. going units (record { tally = clean; last = Some d }) ps) ≡ unless (or_else (wrong (number_of p) x false) (first_bad units (Some d) ps)) (tally_of (d ∷ defects ps))
+    tests : (d : Defect) (x : Bool) → turn (wrong (number_of p) x false) (Some d) (λ d. going units (record { tally = clean; last = Some d }) ps) ≡ unless (option_or (wrong (number_of p) x false) (first_bad units (Some d) ps)) (tally_of (d ∷ defects ps))
     tests d true = refl
     tests d false = goes_on units ps clean d d refl ∙ ap (unless (first_bad units (Some d) ps)) (plus_clean (tally_of (d ∷ defects ps)))
 
-    by : (o : Option Defect) → turn (fault_of units None (number_of p) o) o (λ d. going units (entered clean None d) ps) ≡ unless (or_else (fault_of units None (number_of p) o) (first_bad units o ps)) (tally_of (said o (defects ps)))
+    by : (o : Option Defect) → turn (fault_of units None (number_of p) o) o (λ d. going units (entered clean None d) ps) ≡ unless (option_or (fault_of units None (number_of p) o) (first_bad units o ps)) (tally_of (cons_option o (defects ps)))
     by None = refl
     by (Some d) = tests d (ltb units d.unit)
 
