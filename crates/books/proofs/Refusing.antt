@@ -1,10 +1,11 @@
 -- When an entry is refused.
-use Rattle.std.proofs.Common.{◌≡◌, ℕ, ◌<◌, Bool, true, false, cond, eqb, Some, None, sym, refl, ◌∙◌, arith}
+use Rattle.std.proofs.Common.{◌≡◌, ℕ, ◌<◌, Bool, true, false, cond, eqb, Some, None, Err, Option, sym, refl, ◌∙◌, arith}
 use Rattle.std.proofs.lemmas.Bool.{eqb-false, ne_eqb, cond-true, cond-false}
+use Rattle.inspection.specs.declared.refusal.Refusal.{Refusal}
 use Rattle.inspection.specs.declared.refusal.Refusal.TheVariants.{NoRoom, EntryUnwritable}
 use Rattle.entries.specs.declared.entry.Entry.{Entry}
 use Rattle.entries.specs.Entries.{writable}
-use Rattle.books.specs.Books.{refusal}
+use Rattle.books.specs.Books.{refusal, answered, left}
 
 -- a writable entry is not refused where there is room
 pub open_to : (room : ℕ) (e : Entry) → (room ≡ 0 → ⊥) → writable e ≡ true → None ≡ refusal room e
@@ -18,3 +19,8 @@ taken room e h = by (eqb room 0) refl (writable e) refl h
     by true t w x h = cc
     by false t true x h = (let some = eqb-false room 0 t in omega arith, x)
     by false t false x h = cc
+
+-- a refusal takes no room
+pub refused_left : (o : Option Refusal) (r : Refusal) (room : ℕ) → answered o ≡ Err r → room ≡ left o room
+refused_left None r room e = cc
+refused_left (Some x) r room e = refl

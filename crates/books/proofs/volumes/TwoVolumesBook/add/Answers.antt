@@ -1,5 +1,7 @@
-use Rattle.std.proofs.Common.{◌≡◌, ◌<◌, length, sym, ◌∙◌, arith, rules}
+use Rattle.std.proofs.Common.{◌≡◌, ◌<◌, length, sym, ap, ◌∙◌, arith, rules}
+use Rattle.books.specs.Books.{refusal, answered}
 use Rattle.books.specs.Volumes.{bound_room}
+use Rattle.books.proofs.Refusing.{refused_left}
 use Rattle.books.proofs.Binding.{to_first, to_second}
 use Rattle.books.proofs.volumes.TwoVolumesBook.add.Goals as goal
 use Rattle.books.proofs.volumes.TwoVolumesBook.add.Goals.{else-count-eq0-via-then-count-eq0+else-room_left-gt0, else-count-eq0-via-else-count-eq0}
@@ -32,3 +34,9 @@ returns-else-count-eq0 g c =
     ] in
     let goes = to_second es fs (g.B.Book.entries c.add-else-count-eq0.new.self) r s (g.B.Book.room c.add-else-count-eq0.new.self) c.args.entry some admitted.1 full c.add-else-count-eq0.ensures.entries c.add-else-count-eq0.ensures.room in
     record { answer = search rules; entries = goes.entries; room = goes.room; same = search rules }
+
+pub returns-in_err-admit-clause-room : goal.returns-in_err-admit-clause-room
+returns-in_err-admit-clause-room g c =
+    let volumes = c.args.self.now in
+    let room = bound_room (g.A.Book.entries volumes.first) (g.B.Book.entries volumes.second) (g.A.Book.room volumes.first) (g.B.Book.room volumes.second) in
+    refused_left (refusal room c.args.entry) c.in_err-admit.field-0.0 room (sym (c.in_err-admit.ensures.answer ∙ ap (λ n. answered (refusal n c.args.entry)) c.room_left.ensures))
