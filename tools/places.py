@@ -32,7 +32,7 @@ LINES = [
     (1, "a flag beside a value, as a field or a parameter", r"\w+: bool\b"),
     (1, "a flag that says whether a change was made", r"&mut .*-> bool"),
     (1, "a number for a kind", r"fn \w+\((class|status|kind|verdict): \w+\) -> (u8|u32|usize)"),
-    (1, "a number that stands for nothing", r"None => 0\b"),
+    (1, "a number that stands for nothing", r"None => 0\b|map_or\(0,"),
     (1, "an Option or a Result taken apart and put together again", r"(\bNone => None\b|\bNone => Err\(|Err\(_\) => (return )?Err|Some\(\w+\) => Err\(|Err\(\w+\) => (return )?Err\()"),
     (3, "a loop over numbers", r"for \w+ in .*\.\."),
     (3, "a loop that is no `for`", r"\b(while|loop)\b.*\{$"),

@@ -1,4 +1,7 @@
 // What books keep.
+ghost use Rattle.std.specs.Prelude.{◌≡◌, OnOk, OnErr};
+ghost use Rattle.books.specs.Stores.{line_after, record_after};
+
 use crate::{lot, opened, portion};
 use books::book::Book;
 use books::table::TableBook;
@@ -40,6 +43,41 @@ fn a_text_book_fills(rt: HostRuntime) {
     fills(&rt, &mut TextBook::set(&mut bytes, 0), 4);
     let tail = &bytes[37 * 4..37 * 4 + 36];
     assert!(rt; tail == [b'?'; 36].as_slice());
+}
+
+// What a caller learns of the bytes that it lent: an entry that is added has its line, and no other byte changes.
+fn add_first_line(bytes: &mut [u8], entry: Entry) -> Result<(), Refusal>
+    ensures added { OnOk result (bytes.new ≡ line_after 0 entry bytes.old) }
+    ensures same { OnErr result (bytes.new ≡ bytes.old) }
+{
+    TextBook::set(bytes, 0).add_entry(entry)
+}
+
+// The same of records.
+fn add_first_record(records: &mut [Entry], entry: Entry) -> Result<(), Refusal>
+    ensures added { OnOk result (records.new ≡ record_after 0 entry records.old) }
+    ensures same { OnErr result (records.new ≡ records.old) }
+{
+    TableBook::set(records, 0).add_entry(entry)
+}
+
+#[test]
+fn an_entry_is_written_into_its_place_alone(rt: HostRuntime) {
+    let mut bytes = [b'?'; 37 + 3];
+    assert_eq!(rt;
+        add_first_line(&mut bytes, Entry::SPOILED),
+        Err(Refusal::EntryUnwritable)
+    );
+    assert!(rt; bytes == [b'?'; 37 + 3]);
+    assert_eq!(rt; add_first_line(&mut bytes, portion(7)), Ok(()));
+    assert!(rt; bytes.as_slice() == b"P\tN\tA\t0000000\t0025\t00000\t00000\t00007\n???".as_slice());
+    let mut records = [opened(); 2];
+    assert_eq!(rt;
+        add_first_record(&mut records, Entry::SPOILED),
+        Err(Refusal::EntryUnwritable)
+    );
+    assert_eq!(rt; add_first_record(&mut records, portion(7)), Ok(()));
+    assert_eq!(rt; records, [portion(7), opened()]);
 }
 
 #[test]

@@ -1,6 +1,7 @@
 // What a book is. Code above knows a book by this trait alone.
-ghost use Rattle.std.specs.Prelude.{◌≡◌, ℕ, ◌+◌, ◌≤◌, true, List, length, is_err};
+ghost use Rattle.std.specs.Prelude.{◌≡◌, ℕ, ◌+◌, ◌<◌, ◌≤◌, true, List, length, is_err, OnOk};
 ghost use Rattle.entries.specs.declared.entry.Entry.{Entry as Written};
+ghost use Rattle.entries.specs.Entries.{writable};
 ghost use Rattle.books.specs.Books.{numbered, refusal, answered, put, left};
 
 use entries::entry::Entry;
@@ -8,6 +9,20 @@ use inspection::refusal::Refusal;
 
 // The most entries that a book can come to hold.
 pub const LARGEST: u32 = 9_999_999;
+
+// Why a book with so much room refuses an entry: there is none, and then that the entry is not writable.
+pub(crate) fn admit(room_left: u32, entry: &Entry) -> Result<(), Refusal>
+    ensures answer { result ≡ answered (refusal room_left entry.now) }
+    ensures admitted { OnOk result ((0 < room_left) × (writable entry.now ≡ true)) }
+{
+    if room_left == 0 {
+        return Err(Refusal::NoRoom);
+    }
+    if !entry.is_writable() {
+        return Err(Refusal::EntryUnwritable);
+    }
+    Ok(())
+}
 
 pub trait Book {
     // Its entries, the first numbered 1.

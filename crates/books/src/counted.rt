@@ -4,7 +4,7 @@ ghost use Rattle.books.specs.Books.{refusal, answered};
 ghost use Rattle.books.specs.Stores.{cut, spare, usable};
 ghost use Rattle.books.specs.Bounds.{counted_few};
 
-use crate::book::{Book, LARGEST};
+use crate::book::{Book, LARGEST, admit};
 use crate::places::Places;
 use entries::entry::Entry;
 use inspection::refusal::Refusal;
@@ -23,11 +23,9 @@ impl<P: Places> CountedBook<P> {
         ensures memory { result.memory ≡ memory }
         ensures count { result.count ≡ cut count (length (P.standing memory)) }
     {
-        let places = memory.places().min(LARGEST as usize);
-        CountedBook {
-            memory,
-            count: count.min(places),
-        }
+        let mut book = CountedBook { memory, count: 0 };
+        book.count = count.min(book.capacity());
+        book
     }
 
     // How many entries it can come to hold.
@@ -44,12 +42,7 @@ impl<P: Places> CountedBook<P> {
         ensures count { OnOk result (self.new.count ≡ self.old.count + 1) }
         ensures same { is_err result ≡ true → self.new ≡ self.old }
     {
-        if self.count == self.capacity() {
-            return Err(Refusal::NoRoom);
-        }
-        if !entry.is_writable() {
-            return Err(Refusal::EntryUnwritable);
-        }
+        admit(self.room_left(), &entry)?;
         self.memory.write(self.count, &entry);
         self.count += 1;
         Ok(())

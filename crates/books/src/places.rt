@@ -5,6 +5,7 @@ ghost use Rattle.entries.specs.Entries.{writable, spoiled};
 
 use entries::entry::Entry;
 
+// What stands in a place is read as spoiled where it is no writable entry.
 pub trait Places {
     // What stands in its places, one after another.
     ghost standing: { Self → List Written };
@@ -16,10 +17,12 @@ pub trait Places {
     fn places(&self) -> usize
         ensures { result ≡ length (standing self.now) };
 
+    // What stands in a place.
     fn read(&self, place: usize) -> Entry
         requires { place < length (standing self.now) }
         ensures { result ≡ slice_index_or (standing self.now) place spoiled };
 
+    // Writes an entry into a place.
     fn write(&mut self, place: usize, entry: &Entry)
         requires { place < length (standing self.old) }
         ensures { written place entry.now self.old self.new };

@@ -3,7 +3,7 @@ ghost use Rattle.std.specs.Prelude.{◌≡◌};
 ghost use Rattle.books.specs.Volumes.{bound, bound_room};
 ghost use Rattle.books.specs.Bounds.{bound_few};
 
-use crate::book::{Book, LARGEST};
+use crate::book::{Book, LARGEST, admit};
 use entries::entry::Entry;
 use inspection::refusal::Refusal;
 
@@ -30,10 +30,12 @@ impl<A: Book, B: Book> Book for TwoVolumes<A, B> {
 
     ghost few = { λ b. bound_few (A.Book.entries b.first) (B.Book.entries b.second) (A.Book.room b.first) (B.Book.room b.second) };
 
+    #[tactic(auto, using(crate::specs::Bounds::length_bound))]
     fn count(&self) -> u32 {
         (self.first.count() + self.second.count()).min(LARGEST)
     }
 
+    #[tactic(auto, using(crate::specs::Bounds::length_bound))]
     fn room_left(&self) -> u32 {
         let volumes = if self.second.count() == 0 {
             self.first.room_left() + self.second.room_left()
@@ -43,6 +45,7 @@ impl<A: Book, B: Book> Book for TwoVolumes<A, B> {
         volumes.min(LARGEST - self.count())
     }
 
+    #[tactic(auto, using(crate::proofs::Binding::in_second))]
     fn entry(&self, number: u32) -> Option<Entry> {
         let first = self.first.count();
         if number <= first {
@@ -55,12 +58,7 @@ impl<A: Book, B: Book> Book for TwoVolumes<A, B> {
     }
 
     fn add(&mut self, entry: Entry) -> Result<(), Refusal> {
-        if self.room_left() == 0 {
-            return Err(Refusal::NoRoom);
-        }
-        if !entry.is_writable() {
-            return Err(Refusal::EntryUnwritable);
-        }
+        admit(self.room_left(), &entry)?;
         if self.second.count() == 0 && self.first.room_left() > 0 {
             self.first.add(entry)
         } else {

@@ -1,15 +1,14 @@
 -- A number, digit by digit.
-use Rattle.std.proofs.Common.{◌≡◌, ℕ, ◌+◌, ◌-◌, ◌*◌, ◌^◌, ◌<◌, ◌≤◌, min, Bool, true, false, cond, List, length, get_or, take, Some, None, sym, refl, ap, ◌∙◌, subst, arith}
+use Rattle.std.proofs.Common.{◌≡◌, ℕ, ◌+◌, ◌-◌, ◌*◌, ◌^◌, ◌<◌, ◌≤◌, min, true, List, length, get_or, take, Some, None, sym, ap, ◌∙◌, subst, arith}
 use Rattle.std.proofs.lemmas.Int.Digits.{digits_value_more, digits_more}
 use Rattle.std.proofs.lemmas.List.{take_all}
 use Rattle.std.proofs.lemmas.Str.Parse.{IsNumeralModel, numerals_by_value, tells_all_ascii_digits, digit_at, digits_value_short}
 use Rattle.std.proofs.lemmas.Str.{digit_value_digit}
-use Rattle.std.proofs.lemmas.Bool.{le-leb, lt-ltb, cond-true}
-use Rattle.std.specs.Option.{option_map}
+use Rattle.std.proofs.lemmas.Bool.{cond-true}
 use Rattle.std.specs.Char.{digit_value}
 use Rattle.std.specs.Str.Parse.{digits_value, AllDigits}
 use Rattle.std.specs.Str.{all_ascii_digits}
-use Rattle.decimals.specs.Digits.{numeral, number, led, all_read, clipped}
+use Rattle.decimals.specs.Digits.{all_read, clipped}
 
 pub own : IsNumeralModel (λ ds. all_ascii_digits ds ≡ true) (digits_value 10)
 own = numerals_by_value _ tells_all_ascii_digits
@@ -32,13 +31,7 @@ so_far_more ds i d n m r lt digit is s e f =
 
 -- another byte than a digit stands among them
 pub none_read : (ds : List ℕ) (i : ℕ) → i < length ds → (digit_value (get_or ds i 0) < 10 → ⊥) → None ≡ all_read ds
-none_read ds i lt other = by (all_ascii_digits ds) refl
-  where
-    by : (t : Bool) → all_ascii_digits ds ≡ t → None ≡ cond t (Some (clipped (digits_value 10 ds))) None
-    by false t = refl
-    by true t =
-        let digit = digit_at ds i (own.to ds t) lt in
-        absurd (other (omega (arith, digit_value_digit (get_or ds i 0) digit, digit.0, digit.1)))
+none_read ds i lt other = grind (arith, digit_at, own.to ds, digit_value_digit)
 
 pub whole_read : (ds : List ℕ) (i n : ℕ) → SoFar ds i n → length ds ≤ i → Some n ≡ all_read ds
 whole_read ds i n r done =
@@ -47,22 +40,5 @@ whole_read ds i n r done =
     ap Some (r.reads ∙ ap (λ l. clipped (digits_value 10 l)) all) ∙ sym (cond-true (all_ascii_digits ds) (Some (clipped (digits_value 10 ds))) None form)
 
 -- nine digits fit
-pub few_read : (ds : List ℕ) → 0 < length ds → length ds ≤ 9 → all_read ds ≡ numeral ds
-unfolding numeral
-few_read ds some few = rw (lt-ltb 0 (length ds) some, le-leb (length ds) 9 few) (by (all_ascii_digits ds) refl)
-  where
-    by : (t : Bool) → all_ascii_digits ds ≡ t → cond t (Some (clipped (digits_value 10 ds))) None ≡ cond t (Some (digits_value 10 ds)) None
-    by false t = refl
-    by true t = ap Some (omega (arith, digits_value_short own ds 9 t few))
-
-pub led_read : (ds : List ℕ) → led ds ≡ true → all_read ds ≡ option_map clipped (number ds)
-unfolding number
-led_read ds first = rw first (by (all_ascii_digits ds))
-  where
-    by : (t : Bool) → cond t (Some (clipped (digits_value 10 ds))) None ≡ option_map clipped (cond t (Some (digits_value 10 ds)) None)
-    by false = refl
-    by true = refl
-
-pub not_led : (ds : List ℕ) → led ds ≡ false → None ≡ option_map clipped (number ds)
-unfolding number
-not_led ds other = rw other refl
+pub nine_fit : (ds : List ℕ) → all_ascii_digits ds ≡ true → length ds ≤ 9 → clipped (digits_value 10 ds) ≡ digits_value 10 ds
+nine_fit ds form few = omega (arith, digits_value_short own ds 9 form few)

@@ -62,7 +62,7 @@ unfolding numeral
 read_back ds n e = by (digits_form ds) refl e
   where
     by : (t : Bool) → digits_form ds ≡ t → cond t (Some (digits_value 10 ds)) None ≡ Some n → (n < 10 ^ length ds) × (ds ≡ padded (length ds) n)
-    by false t e = let z : ◌≡◌ {A = ℕ} 0 1 = cc in absurd (omega arith)
+    by false t e = cc
     by true t e =
         let is : digits_value 10 ds ≡ n = cc in
         let digits = own.to ds (and_parts (ltb 0 (length ds) && leb (length ds) 9) (all_ascii_digits ds) t).1 in

@@ -19,6 +19,7 @@ fn read_all(digits: &[u8]) -> Option<u32>
 }
 
 // The number that one to nine digits write; no other bytes write one.
+#[tactic(auto, using(crate::proofs::Reading::nine_fit), unfolding(crate::specs::Digits::numeral))]
 pub fn read_digits(digits: &[u8]) -> Option<u32>
     ensures { result ≡ numeral digits.now }
 {
@@ -39,6 +40,7 @@ fn is_led(digits: &[u8]) -> bool
 }
 
 // The number that digits write without leading zero, however many they are; one that does not fit is read as the largest that does.
+#[tactic(auto, unfolding(crate::specs::Digits::number))]
 pub fn read_number(digits: &[u8]) -> Option<u32>
     ensures { result ≡ option_map clipped (plain_number digits.now) }
 {
@@ -52,9 +54,10 @@ pub fn read_number(digits: &[u8]) -> Option<u32>
 pub fn write_digits(places: &mut [u8], number: u32)
     ensures { places.new ≡ padded (length places.old) number }
 {
-    if let Some((last, front)) = places.split_last_mut() {
-        *last = b'0' + (number % 10) as u8;
-        write_digits(front, number / 10);
+    let mut left = number;
+    for i in (0..places.len()).rev() {
+        places[i] = b'0' + (left % 10) as u8;
+        left /= 10;
     }
 }
 

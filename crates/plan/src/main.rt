@@ -1,56 +1,51 @@
 // Checks the plan texts whose files are named, and prints the rows of each: `plan plans/origin-double.plan`.
 #![tactic(auto)]
 
-use anyhow::anyhow;
-use inspection::status::Status;
+use anyhow::bail;
+use inspection::class::PerClass;
 use plan_texts::reading::{PlanError, read_plan};
 use plans::plan_book::PlanBook;
-use plans::rows::{ClassNumbers, LimitRow, LotRow};
+use plans::rows::{LimitRow, LotRow};
 use std::{env, fs};
 
-fn status_name(status: Status) -> &'static str {
-    match status {
-        Status::Normal => "normal",
-        Status::Tightened => "tightened",
-        Status::Reduced => "reduced",
-    }
-}
-
-fn print_class(rt: &HostRuntime, name: &str, numbers: ClassNumbers) -> anyhow::Result<()> {
+fn print_lot_row(rt: &HostRuntime, row: &LotRow) -> anyhow::Result<()> {
     println!(rt;
-        "    {name}: first sample accepted to {}, rejected from {}, both accepted to {}",
-        numbers.accept_first, numbers.reject_first, numbers.accept_both,
+        "  {}, lots from {}: first sample {}, both {}",
+        row.status, row.lowest_size, row.first_sample, row.total_sample,
     )?;
+    let PerClass {
+        critical,
+        major,
+        total,
+    } = row.numbers;
+    for (name, numbers) in [("critical", critical), ("major", major), ("total", total)] {
+        println!(rt;
+            "    {name}: first sample accepted to {}, rejected from {}, both accepted to {}",
+            numbers.accept_first, numbers.reject_first, numbers.accept_both,
+        )?;
+    }
     Ok(())
 }
 
-fn print_lot_row(rt: &HostRuntime, row: LotRow) -> anyhow::Result<()> {
+fn print_limit_row(rt: &HostRuntime, row: &LimitRow) -> anyhow::Result<()> {
+    let PerClass {
+        critical,
+        major,
+        total,
+    } = row.limits;
     println!(rt;
-        "  {}, lots from {}: first sample {}, both {}",
-        status_name(row.status),
-        row.lowest_size,
-        row.first_sample,
-        row.total_sample,
-    )?;
-    print_class(rt, "critical", row.critical)?;
-    print_class(rt, "major", row.major)?;
-    print_class(rt, "total", row.total)
-}
-
-fn print_limit_row(rt: &HostRuntime, row: LimitRow) -> anyhow::Result<()> {
-    println!(rt;
-        "  relief, from {} units: critical {}, major {}, total {}",
-        row.lowest_units, row.critical, row.major, row.total,
+        "  relief, from {} units: critical {critical}, major {major}, total {total}",
+        row.lowest_units,
     )?;
     Ok(())
 }
 
 fn print_plan(rt: &HostRuntime, plan: &PlanBook) -> anyhow::Result<()> {
     for row in plan.lots() {
-        print_lot_row(rt, *row)?;
+        print_lot_row(rt, row)?;
     }
     for row in plan.limits() {
-        print_limit_row(rt, *row)?;
+        print_limit_row(rt, row)?;
     }
     Ok(())
 }
@@ -58,23 +53,17 @@ fn print_plan(rt: &HostRuntime, plan: &PlanBook) -> anyhow::Result<()> {
 fn show(rt: &HostRuntime, path: &str) -> anyhow::Result<()> {
     let text = fs::read(rt, path)?;
     println!(rt; "{path}")?;
-    match read_plan(&text, rt.alloc()) {
-        Ok(plan) => print_plan(rt, &plan),
-        Err(PlanError::Refused(refusal)) => {
-            println!(rt; "  {refusal}")?;
-            Err(anyhow!("a plan is refused"))
-        }
-        Err(PlanError::NoMemory) => Err(anyhow!("no memory for the plan")),
+    let plan = read_plan(&text, rt.alloc());
+    if let Err(PlanError::Refused(refusal)) = &plan {
+        println!(rt; "  {refusal}")?;
+        bail!("a plan is refused");
     }
-}
-
-fn run(rt: &HostRuntime) -> anyhow::Result<()> {
-    for path in env::args(rt)?.skip(1) {
-        show(rt, path.as_str())?;
-    }
-    Ok(())
+    print_plan(rt, &plan?)
 }
 
 fn main(rt: HostRuntime) -> anyhow::Result<()> {
-    run(&rt)
+    for path in env::args(&rt)?.skip(1) {
+        show(&rt, path.as_str())?;
+    }
+    Ok(())
 }

@@ -1,5 +1,6 @@
 -- What a plan text says: its first bad line, or its rows.
-use Rattle.std.specs.Prelude.{◌≡◌, ℕ, Bool, true, false, cond, List, [], ◌∷◌, Some, None, Ok, Err, vec_items, Option, Result}
+use Rattle.std.specs.Prelude.{◌≡◌, ℕ, Bool, true, false, cond, List, [], ◌∷◌, ◌++◌, Some, None, Ok, Err, vec_items, Option, Result, codes}
+use Rattle.std.specs.Option.{option_or}
 use Rattle.inspection.specs.declared.refusal.Refusal.{Refusal}
 use Rattle.inspection.specs.declared.refusal.Refusal.TheVariants.{PlanLineNotOfForm, PlanBoundBroken, PlanRowOutOfOrder, PlanRowCountsWrong}
 use Rattle.texts.specs.Pieces.{Piece, number_of, pieces}
@@ -12,6 +13,11 @@ use Rattle.plan_texts.specs.declared.row.Row.{Row}
 use Rattle.plan_texts.specs.declared.row.Row.TheVariants.{Lot, Limit}
 use Rattle.plans.specs.Plans.{lot_row_kept, limit_row_kept, lot_row_follows, limit_row_follows, counts_kept}
 use Rattle.plan_texts.specs.RowLines.{row_of}
+
+-- how people are told of want of memory; a refusal has words of its own
+abbrev pub told : PlanError → Option (List ℕ)
+told (Refused r) = None
+told NoMemory = Some (codes "no memory for the plan")
 
 abbrev pub row_kept : Row → Bool
 row_kept (Lot r) = lot_row_kept r
@@ -38,24 +44,27 @@ fault_of last n (Some r) = cond (row_kept r) (cond (follows_after last r) None (
 abbrev pub fault : Option Row → Piece → Option Refusal
 fault last p = fault_of last (number_of p) (row_of p)
 
-abbrev pub or_else : Option Refusal → Option Refusal → Option Refusal
-or_else None o = o
-or_else (Some r) o = Some r
-
 -- what is wrong with the first bad line, each looked at beside the line before it
 abbrev pub first_bad : Option Row → List Piece → Option Refusal
 first_bad last [] = None
-first_bad last (p ∷ ps) = or_else (fault last p) (first_bad (row_of p) ps)
+first_bad last (p ∷ ps) = option_or (fault last p) (first_bad (row_of p) ps)
+
+-- a row among those of its kind
+abbrev pub lot_of : Row → List LotRow
+lot_of (Lot r) = r ∷ []
+lot_of (Limit r) = []
+
+abbrev pub limit_of : Row → List LimitRow
+limit_of (Lot r) = []
+limit_of (Limit r) = r ∷ []
 
 abbrev pub lot_said : Option Row → List LotRow → List LotRow
 lot_said None rows = rows
-lot_said (Some (Lot r)) rows = r ∷ rows
-lot_said (Some (Limit r)) rows = rows
+lot_said (Some r) rows = lot_of r ++ rows
 
 abbrev pub limit_said : Option Row → List LimitRow → List LimitRow
 limit_said None rows = rows
-limit_said (Some (Lot r)) rows = rows
-limit_said (Some (Limit r)) rows = r ∷ rows
+limit_said (Some r) rows = limit_of r ++ rows
 
 -- the lot rows and the limit rows that the lines say, in their order
 abbrev pub lots_said : List Piece → List LotRow
@@ -80,7 +89,7 @@ unless (Some r) rows = Err r
 -- the rows of a plan text, or why it is refused
 abbrev pub plan_of : List ℕ → Result Rows Refusal
 plan_of text =
-    unless (or_else (first_bad None (pieces text)) (counted (lots_said (pieces text)) (limits_said (pieces text)))) (lots_said (pieces text), limits_said (pieces text))
+    unless (option_or (first_bad None (pieces text)) (counted (lots_said (pieces text)) (limits_said (pieces text)))) (lots_said (pieces text), limits_said (pieces text))
 
 -- what a plan book holds
 abbrev pub rows_of_book : PlanBook → Rows

@@ -1,7 +1,9 @@
 -- What a line of a plan text says: fields parted by tabs, a line feed last.
 use Rattle.std.specs.Prelude.{ℕ, Bool, false, cond, List, [], ◌∷◌, Some, None, Option, ◌==◌}
+use Rattle.std.specs.Option.{option_map, option_and_then}
 use Rattle.decimals.specs.Digits.{number, clipped}
 use Rattle.inspection.specs.Letters.{status_of}
+use Rattle.inspection.specs.declared.class.PerClass.{PerClass}
 use Rattle.inspection.specs.declared.status.Status.{Status}
 use Rattle.texts.specs.Pieces.{Piece, fields, bare}
 use Rattle.texts.specs.Texts.{parted_by}
@@ -16,21 +18,15 @@ abbrev pub Taken : Type 0 → Type 0
 Taken X = Option (X × List ℕ)
 
 abbrev pub then : {X Y : Type 0} → Taken X → (X → List ℕ → Option Y) → Option Y
-then None f = None
-then (Some p) f = f p.0 p.1
+then taken f = option_and_then (λ p. f p.0 p.1) taken
 
 abbrev pub with_rest : List ℕ → Option ℕ → Taken ℕ
-with_rest rest None = None
-with_rest rest (Some n) = Some (clipped n, rest)
-
-abbrev pub number_before : Option (List ℕ × List ℕ) → Taken ℕ
-number_before None = None
-number_before (Some p) = with_rest p.1 (number p.0)
+with_rest rest n = option_map (λ n. (clipped n, rest)) n
 
 -- a number in decimal digits without leading zero, up to the next x. It may have any length: one that does not fit 32 bits stands as the
 -- largest that does, which breaks the same bound
 unfoldable pub number_to : ℕ → List ℕ → Taken ℕ
-number_to x bs = number_before (parted_by x bs)
+number_to x bs = then (parted_by x bs) (λ digits rest. with_rest rest (number digits))
 
 -- the three numbers of a class, the last of them up to x
 unfoldable pub class_to : ℕ → List ℕ → Taken ClassNumbers
@@ -39,6 +35,14 @@ class_to x bs =
     then (number_to 9 bs) (λ re1 bs.
     then (number_to x bs) (λ ac2 bs.
     Some (record { accept_first = ac1; reject_first = re1; accept_both = ac2 }, bs))))
+
+-- one of something for each class, the last of them up to x
+unfoldable pub each_to : {X : Type 0} → (ℕ → List ℕ → Taken X) → ℕ → List ℕ → Taken (PerClass X)
+each_to to x bs =
+    then (to 9 bs) (λ c bs.
+    then (to 9 bs) (λ m bs.
+    then (to x bs) (λ t bs.
+    Some (record { critical = c; major = m; total = t }, bs))))
 
 -- nothing follows
 abbrev pub at_end : {X : Type 0} → List ℕ → X → Option X
@@ -51,39 +55,15 @@ lot_row_in s bs =
     then (number_to 9 bs) (λ size bs.
     then (number_to 9 bs) (λ first bs.
     then (number_to 9 bs) (λ both bs.
-    then (class_to 9 bs) (λ critical bs.
-    then (class_to 9 bs) (λ major bs.
-    then (class_to 10 bs) (λ total bs.
-    at_end bs (record {
-      status = s;
-      lowest_size = size;
-      first_sample = first;
-      total_sample = both;
-      critical = critical;
-      major = major;
-      total = total;
-    })))))))
+    then (each_to class_to 10 bs) (λ numbers bs.
+    at_end bs (record { status = s; lowest_size = size; first_sample = first; total_sample = both; numbers = numbers })))))
 
 -- what follows the M of a limit row: lowest units, and three limits
 unfoldable pub limit_row_in : List ℕ → Option LimitRow
 limit_row_in bs =
     then (number_to 9 bs) (λ units bs.
-    then (number_to 9 bs) (λ critical bs.
-    then (number_to 9 bs) (λ major bs.
-    then (number_to 10 bs) (λ total bs.
-    at_end bs (record { lowest_units = units; critical = critical; major = major; total = total })))))
-
-abbrev pub as_lot : Option LotRow → Option Row
-as_lot None = None
-as_lot (Some r) = Some (Lot r)
-
-abbrev pub as_limit : Option LimitRow → Option Row
-as_limit None = None
-as_limit (Some r) = Some (Limit r)
-
-abbrev pub of_status : Option Status → List ℕ → Option LotRow
-of_status None bs = None
-of_status (Some s) bs = lot_row_in s bs
+    then (each_to number_to 10 bs) (λ limits bs.
+    at_end bs (record { lowest_units = units; limits = limits })))
 
 -- the field is that one letter
 abbrev pub is_letter : ℕ → List ℕ → Bool
@@ -95,11 +75,11 @@ is_letter x (b ∷ c ∷ bs) = false
 abbrev pub lot_in : List ℕ → Option LotRow
 lot_in [] = None
 lot_in (s ∷ []) = None
-lot_in (s ∷ tab ∷ bs) = cond (tab == 9) (of_status (status_of s) bs) None
+lot_in (s ∷ tab ∷ bs) = cond (tab == 9) (option_and_then (λ status. lot_row_in status bs) (status_of s)) None
 
 -- a line begins with L (76) or M (77)
 abbrev pub row_of_kind : List ℕ → List ℕ → Option Row
-row_of_kind kind bs = cond (is_letter 76 kind) (as_lot (lot_in bs)) (cond (is_letter 77 kind) (as_limit (limit_row_in bs)) None)
+row_of_kind kind bs = cond (is_letter 76 kind) (option_map Lot (lot_in bs)) (cond (is_letter 77 kind) (option_map Limit (limit_row_in bs)) None)
 
 abbrev pub row_of : Piece → Option Row
 row_of (fields n kind rest) = row_of_kind kind rest

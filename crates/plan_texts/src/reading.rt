@@ -1,13 +1,12 @@
 // A plan book from a text.
-ghost use Rattle.std.specs.Prelude.{◌≡◌, [], ◌∷◌, ◌++◌, Some, None, count_by, MatchResult, OnOk};
-ghost use Rattle.inspection.specs.Statuses.{same_status};
+ghost use Rattle.std.specs.Prelude.{◌≡◌, Some, None, MatchResult, OnOk};
 ghost use Rattle.texts.specs.Pieces.{shown};
-ghost use Rattle.plans.specs.Plans.{counts_kept, rows_of};
-ghost use Rattle.plan_texts.specs.PlanTexts.{fault, Answers, Replaced};
+ghost use Rattle.plans.specs.Plans.{between, counts_kept, rows_of};
+ghost use Rattle.plan_texts.specs.declared.reading.PlanError.TheVariants.{Refused, NoMemory};
+ghost use Rattle.plan_texts.specs.PlanTexts.{told, fault, Answers, Replaced};
 ghost use Rattle.plan_texts.specs.Putting.{Put};
 ghost use Rattle.plan_texts.specs.RowLines.{row_of};
 
-use crate::bounds::{row_follows, row_kept};
 use crate::row::Row;
 use crate::row_line::read_row;
 use inspection::refusal::Refusal;
@@ -15,6 +14,8 @@ use inspection::status::Status;
 use plans::plan_book::PlanBook;
 use plans::rows::{LimitRow, LotRow};
 use std::alloc::{AllocError, Global};
+use std::error::Error;
+use std::fmt;
 use texts::lines::{Item, Lines};
 
 // Why there is no plan book.
@@ -24,54 +25,73 @@ pub enum PlanError {
     NoMemory,
 }
 
+impl From<Refusal> for PlanError {
+    ghost from_gives = { λ refusal e. e ≡ Refused refusal };
+
+    fn from(refusal: Refusal) -> PlanError {
+        PlanError::Refused(refusal)
+    }
+}
+
+impl From<AllocError> for PlanError {
+    ghost from_gives = { λ _ e. e ≡ NoMemory };
+
+    fn from(_error: AllocError) -> PlanError {
+        PlanError::NoMemory
+    }
+}
+
+impl fmt::Display for PlanError {
+    ghost output = { told };
+
+    fn fmt<W: fmt::Write>(&self, f: &mut fmt::Formatter<W>) -> fmt::Result {
+        match self {
+            PlanError::Refused(why) => write!(f, "{why}"),
+            PlanError::NoMemory => f.write_str("no memory for the plan"),
+        }
+    }
+}
+
+impl Error for PlanError {}
+
 // The row that a line says after the row `last`, or what is wrong with it: the lowest number first.
 fn check(item: &Item<'_>, last: Option<Row>) -> Result<Row, Refusal>
     ensures { MatchResult result (λ w. (fault last (shown item.now) ≡ None) × (row_of (shown item.now) ≡ Some w)) (λ e. fault last (shown item.now) ≡ Some e) }
 {
     let line = item.line();
-    let Some(row) = read_row(item) else {
-        return Err(Refusal::PlanLineNotOfForm { line });
-    };
-    if !row_kept(&row) {
+    let row = read_row(item).ok_or(Refusal::PlanLineNotOfForm { line })?;
+    if !row.is_kept() {
         return Err(Refusal::PlanBoundBroken { line });
     }
     if let Some(last) = last
-        && !row_follows(&last, &row)
+        && !last.may_precede(&row)
     {
         return Err(Refusal::PlanRowOutOfOrder { line });
     }
     Ok(row)
 }
 
-fn is_of(row: &LotRow, status: Status) -> bool
-    ensures { result ≡ same_status row.now.status status }
-{
-    row.status == status
-}
-
 // How many rows are of the status.
 fn rows_of(lots: &[LotRow], status: Status) -> usize
     ensures { result ≡ rows_of status lots.now }
 {
-    let mut rows = 0usize;
-    for row in lots {
-        if is_of(row, status) {
-            rows += 1;
-        }
-    }
-    rows
+    lots.iter().filter(|row| row.status == status).count()
+}
+
+// 1 to 32 rows of the status.
+fn rows_of_kept(lots: &[LotRow], status: Status) -> bool
+    ensures { result ≡ between 32 (rows_of status lots.now) }
+{
+    (1..=32).contains(&rows_of(lots, status))
 }
 
 // 1 to 32 lot rows for each status, and 1 to 16 limit rows.
 fn counts_kept(lots: &[LotRow], limits: &[LimitRow]) -> bool
     ensures { result ≡ counts_kept lots.now limits.now }
 {
-    let normal = rows_of(lots, Status::Normal);
-    let tightened = rows_of(lots, Status::Tightened);
-    let reduced = rows_of(lots, Status::Reduced);
-    (1..=32).contains(&normal)
-        && (1..=32).contains(&tightened)
-        && (1..=32).contains(&reduced)
+    rows_of_kept(lots, Status::Normal)
+        && rows_of_kept(lots, Status::Tightened)
+        && rows_of_kept(lots, Status::Reduced)
         && (1..=16).contains(&limits.len())
 }
 
@@ -97,6 +117,7 @@ impl Running {
 }
 
 // The plan book of a text, which is taken whole or refused at its first bad line.
+#[tactic(auto, using(crate::proofs::PlanReading::going_more, crate::proofs::PlanReading::plan_read))]
 pub fn read_plan(text: &[u8], heap: Global) -> Result<PlanBook, PlanError>
     ensures { Answers text.now result }
 {
@@ -106,17 +127,12 @@ pub fn read_plan(text: &[u8], heap: Global) -> Result<PlanBook, PlanError>
         last: None,
     };
     for item in Lines::new(text) {
-        match check(&item, running.last) {
-            Ok(row) => match running.put(row) {
-                Ok(()) => {}
-                Err(_) => return Err(PlanError::NoMemory),
-            },
-            Err(refusal) => return Err(PlanError::Refused(refusal)),
-        }
+        let row = check(&item, running.last)?;
+        running.put(row)?;
     }
     let Running { lots, limits, .. } = running;
     if !counts_kept(&lots, &limits) {
-        return Err(PlanError::Refused(Refusal::PlanRowCountsWrong));
+        return Err(Refusal::PlanRowCountsWrong.into());
     }
     Ok(PlanBook { lots, limits })
 }

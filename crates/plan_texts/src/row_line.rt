@@ -1,90 +1,110 @@
 // What a line of a plan text says.
-ghost use Rattle.std.specs.Prelude.{◌≡◌, Some, None, MatchOption};
+ghost use Rattle.std.specs.Prelude.{◌≡◌, ℕ, List, Some, None, MatchOption};
 ghost use Rattle.texts.specs.Pieces.{shown};
-ghost use Rattle.plan_texts.specs.RowLines.{number_to, class_to, lot_row_in, limit_row_in, lot_in, row_of};
+ghost use Rattle.plan_texts.specs.RowLines.{Taken, number_to, class_to, each_to, lot_row_in, limit_row_in, lot_in, row_of};
 
 use crate::row::Row;
 use decimals::read_number;
+use inspection::class::PerClass;
 use inspection::status::Status;
 use plans::rows::{ClassNumbers, LimitRow, LotRow};
 use texts::bytes::position;
 use texts::lines::Item;
 
-// The number before the next `end`, and what follows it.
-fn take_number(bytes: &[u8], end: u8) -> Option<(u32, &[u8])>
-    ensures { MatchOption result (number_to end bytes.now ≡ None) (λ p. number_to end bytes.now ≡ Some (p.0, p.1.now)) }
-{
-    let at = position(bytes, end)?;
-    let number = read_number(&bytes[0..at])?;
-    Some((number, &bytes[at + 1..]))
+// What a line says between tabs, read off the front of the bytes up to the next `end`.
+trait Field: Copy {
+    ghost said_to: { ℕ → List ℕ → Taken Self };
+
+    // What is said, and what follows the end.
+    fn take(bytes: &[u8], end: u8) -> Option<(Self, &[u8])>
+        ensures { MatchOption result (said_to end bytes.now ≡ None) (λ p. said_to end bytes.now ≡ Some (p.0, p.1.now)) };
 }
 
-// The numbers of a class, the last of them before the next `end`.
-fn take_class(bytes: &[u8], end: u8) -> Option<(ClassNumbers, &[u8])>
-    ensures { MatchOption result (class_to end bytes.now ≡ None) (λ p. class_to end bytes.now ≡ Some (p.0, p.1.now)) }
-{
-    let (accept_first, rest) = take_number(bytes, b'\t')?;
-    let (reject_first, rest) = take_number(rest, b'\t')?;
-    let (accept_both, rest) = take_number(rest, end)?;
-    let numbers = ClassNumbers {
-        accept_first,
-        reject_first,
-        accept_both,
-    };
-    Some((numbers, rest))
+impl Field for u32 {
+    ghost said_to = { number_to };
+
+    #[tactic(auto, using(crate::proofs::Fields::no_end, crate::proofs::Fields::no_number, crate::proofs::Fields::one_number))]
+    fn take(bytes: &[u8], end: u8) -> Option<(u32, &[u8])> {
+        let at = position(bytes, end)?;
+        let number = read_number(&bytes[..at])?;
+        Some((number, &bytes[at + 1..]))
+    }
+}
+
+impl Field for ClassNumbers {
+    ghost said_to = { class_to };
+
+    #[tactic(auto, unfolding(crate::specs::RowLines::class_to))]
+    fn take(bytes: &[u8], end: u8) -> Option<(ClassNumbers, &[u8])> {
+        let (accept_first, rest) = u32::take(bytes, b'\t')?;
+        let (reject_first, rest) = u32::take(rest, b'\t')?;
+        let (accept_both, rest) = u32::take(rest, end)?;
+        let numbers = ClassNumbers {
+            accept_first,
+            reject_first,
+            accept_both,
+        };
+        Some((numbers, rest))
+    }
+}
+
+impl<T: Field> Field for PerClass<T> {
+    ghost said_to = { each_to T.said_to };
+
+    #[tactic(auto, unfolding(crate::specs::RowLines::each_to))]
+    fn take(bytes: &[u8], end: u8) -> Option<(PerClass<T>, &[u8])> {
+        let (critical, rest) = T::take(bytes, b'\t')?;
+        let (major, rest) = T::take(rest, b'\t')?;
+        let (total, rest) = T::take(rest, end)?;
+        let each = PerClass {
+            critical,
+            major,
+            total,
+        };
+        Some((each, rest))
+    }
 }
 
 // What follows the status of a lot row.
+#[tactic(auto, using(crate::proofs::Fields::at_end_then), unfolding(crate::specs::RowLines::lot_row_in))]
 fn read_lot_row(status: Status, bytes: &[u8]) -> Option<LotRow>
     ensures { result ≡ lot_row_in status bytes.now }
 {
-    let (lowest_size, rest) = take_number(bytes, b'\t')?;
-    let (first_sample, rest) = take_number(rest, b'\t')?;
-    let (total_sample, rest) = take_number(rest, b'\t')?;
-    let (critical, rest) = take_class(rest, b'\t')?;
-    let (major, rest) = take_class(rest, b'\t')?;
-    let (total, rest) = take_class(rest, b'\n')?;
-    if !rest.is_empty() {
-        return None;
-    }
-    Some(LotRow {
+    let (lowest_size, rest) = u32::take(bytes, b'\t')?;
+    let (first_sample, rest) = u32::take(rest, b'\t')?;
+    let (total_sample, rest) = u32::take(rest, b'\t')?;
+    let (numbers, rest) = PerClass::take(rest, b'\n')?;
+    rest.is_empty().then_some(LotRow {
         status,
         lowest_size,
         first_sample,
         total_sample,
-        critical,
-        major,
-        total,
+        numbers,
     })
 }
 
 // What follows the kind of a limit row.
+#[tactic(auto, unfolding(crate::specs::RowLines::limit_row_in))]
 fn read_limit_row(bytes: &[u8]) -> Option<LimitRow>
     ensures { result ≡ limit_row_in bytes.now }
 {
-    let (lowest_units, rest) = take_number(bytes, b'\t')?;
-    let (critical, rest) = take_number(rest, b'\t')?;
-    let (major, rest) = take_number(rest, b'\t')?;
-    let (total, rest) = take_number(rest, b'\n')?;
-    if !rest.is_empty() {
-        return None;
-    }
-    Some(LimitRow {
+    let (lowest_units, rest) = u32::take(bytes, b'\t')?;
+    let (limits, rest) = PerClass::take(rest, b'\n')?;
+    rest.is_empty().then_some(LimitRow {
         lowest_units,
-        critical,
-        major,
-        total,
+        limits,
     })
 }
 
 // What follows the kind of a lot row.
+#[tactic(auto, using(crate::proofs::Fields::lot_in_by))]
 fn read_lot(bytes: &[u8]) -> Option<LotRow>
     ensures { result ≡ lot_in bytes.now }
 {
     let [status, b'\t', rest @ ..] = bytes else {
         return None;
     };
-    let status = Status::from_letter(char::from(*status))?;
+    let status = Status::try_from(char::from(*status)).ok()?;
     read_lot_row(status, rest)
 }
 
@@ -96,8 +116,8 @@ pub fn read_row(item: &Item<'_>) -> Option<Row>
         return None;
     };
     match first {
-        [b'L'] => Some(Row::Lot(read_lot(rest)?)),
-        [b'M'] => Some(Row::Limit(read_limit_row(rest)?)),
+        [b'L'] => read_lot(rest).map(Row::Lot),
+        [b'M'] => read_limit_row(rest).map(Row::Limit),
         _ => None,
     }
 }

@@ -4,5 +4,3 @@ pub mod Table
 pub mod Stretches
 pub mod Samples
 pub mod More
-pub mod Marked
-pub mod Going

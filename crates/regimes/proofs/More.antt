@@ -1,13 +1,12 @@
 -- More defects, or higher values, never turn a rejection into an acceptance.
-use Rattle.std.proofs.Common.{◌≡◌, ℕ, zero, suc, ◌<◌, ◌≤◌, Bool, true, false, cond, List, [], ◌∷◌, length, get_or, Some, None, refl, ap, suc-le-suc, zero-le, le_of_suc-le-suc, not-suc-le-zero, arith}
-use Rattle.std.proofs.lemmas.Bool.{leb-true, le-leb, ltb-true, lt-ltb}
-use Rattle.inspection.specs.Letters.{verdict_letter}
+use Rattle.std.proofs.Common.{◌≡◌, ℕ, zero, suc, ◌<◌, ◌≤◌, Bool, true, cond, List, [], ◌∷◌, length, get_or, Some, None, suc-le-suc, zero-le, le_of_suc-le-suc, not-suc-le-zero, arith}
+use Rattle.std.proofs.lemmas.Bool.Decides.{nat_tests}
 use Rattle.inspection.specs.declared.status.Status.{Status}
 use Rattle.inspection.specs.declared.tally.Tally.{Tally}
 use Rattle.inspection.specs.declared.verdict.Verdict.TheVariants.{Accepted, Rejected, Undecided}
 use Rattle.plans.specs.declared.rows.LotRow.{LotRow}
-use Rattle.inspection.specs.Classes.{count_of, some_class, each_class, at_class}
-use Rattle.regimes.specs.Portions.{Values, cusum_of, value_reached, is_over, value_held, portion_judged, starting_values, verdicts_on, verdicts_of}
+use Rattle.inspection.specs.Classes.{count_of, some_class, each_class}
+use Rattle.regimes.specs.Portions.{Values, value_reached, is_over, value_held, portion_judged, starting_values, verdicts_on, verdicts_of}
 use Rattle.regimes.specs.Lots.{added, accepts_first, rejects_first, accepts_both, lot_judged}
 use Rattle.regimes.specs.Promises.{NoMore, NoMoreEach, NoHigher, MoreIsNoBetter}
 use Rattle.inspection.specs.declared.class.JudgedClass.{JudgedClass}
@@ -26,8 +25,7 @@ module _ (s : Status) (t u : Tally) (v w : Values) (m : NoMore t u) (h : NoHighe
   reached_more c = omega (arith, no_more_of t u m c, h c)
 
   over_more : (c : JudgedClass) → is_over s t v c ≡ true → is_over s u w c ≡ true
-  over_more c e =
-      lt-ltb (cusum_of c s).limit (value_reached s u w c) (omega (arith, ltb-true (cusum_of c s).limit (value_reached s t v c) e, reached_more c))
+  over_more c e = grind (arith, nat_tests, reached_more c)
 
   portions : (portion_judged s t v).0 ≡ Rejected → (portion_judged s u w).0 ≡ Rejected
   portions e =
@@ -56,49 +54,34 @@ stretches s ts us m = all_along s (starting_values s) (starting_values s) ts us 
 
 module _ (r : LotRow) (t u : Tally) (m : NoMore t u) where
   accepts_fewer : each_class (accepts_first r u) ≡ true → each_class (accepts_first r t) ≡ true
-  accepts_fewer =
-      each_more (accepts_first r u) (accepts_first r t)
-      (λ c e. le-leb (count_of c t) (at_class r.numbers c).accept_first (omega (arith, leb-true (count_of c u) (at_class r.numbers c).accept_first e, no_more_of t u m c)))
+  accepts_fewer = each_more (accepts_first r u) (accepts_first r t) (λ c e. grind (arith, nat_tests, no_more_of t u m c))
 
   rejects_more : some_class (rejects_first r t) ≡ true → some_class (rejects_first r u) ≡ true
-  rejects_more =
-      some_more (rejects_first r t) (rejects_first r u)
-      (λ c e. le-leb (at_class r.numbers c).reject_first (count_of c u) (omega (arith, leb-true (at_class r.numbers c).reject_first (count_of c t) e, no_more_of t u m c)))
+  rejects_more = some_more (rejects_first r t) (rejects_first r u) (λ c e. grind (arith, nat_tests, no_more_of t u m c))
 
   first_rejected : (lot_judged (Some r) t None).0 ≡ Rejected → (lot_judged (Some r) u None).0 ≡ Rejected
   first_rejected = by (each_class (accepts_first r t)) (some_class (rejects_first r t)) (each_class (accepts_first r u)) (some_class (rejects_first r u)) accepts_fewer rejects_more
     where
       by : (a b x y : Bool) → (x ≡ true → a ≡ true) → (b ≡ true → y ≡ true) → (by_tests a b t).0 ≡ Rejected → (by_tests x y u).0 ≡ Rejected
-      by true b x y f g e = absurd (omega (arith, ap verdict_letter e))
-      by false false x y f g e = absurd (omega (arith, ap verdict_letter e))
-      by false true true y f g e = cc (f refl)
-      by false true false true f g e = refl
-      by false true false false f g e = cc (g refl)
+      by a b x y f g e = grind arith
 
   first_accepted : (lot_judged (Some r) u None).0 ≡ Accepted → (lot_judged (Some r) t None).0 ≡ Accepted
   first_accepted = by (each_class (accepts_first r t)) (some_class (rejects_first r t)) (each_class (accepts_first r u)) (some_class (rejects_first r u)) accepts_fewer
     where
       by : (a b x y : Bool) → (x ≡ true → a ≡ true) → (by_tests x y u).0 ≡ Accepted → (by_tests a b t).0 ≡ Accepted
-      by true b x y f e = refl
-      by false b true y f e = cc (f refl)
-      by false b false true f e = absurd (omega (arith, ap verdict_letter e))
-      by false b false false f e = absurd (omega (arith, ap verdict_letter e))
+      by a b x y f e = grind arith
 
 module _ (r : LotRow) (a b t u : Tally) (first : NoMore a b) (second : NoMore t u) where
   both_fewer : each_class (accepts_both r (added b u)) ≡ true → each_class (accepts_both r (added a t)) ≡ true
   both_fewer =
       each_more (accepts_both r (added b u)) (accepts_both r (added a t))
-      (λ c e.
-      le-leb (count_of c (added a t)) (at_class r.numbers c).accept_both
-      (omega (arith, leb-true (count_of c (added b u)) (at_class r.numbers c).accept_both e, count_added c a t, count_added c b u, no_more_of a b first c, no_more_of t u second c)))
+      (λ c e. grind (arith, nat_tests, count_added c a t, count_added c b u, no_more_of a b first c, no_more_of t u second c))
 
   both_rejected : (lot_judged (Some r) t (Some a)).0 ≡ Rejected → (lot_judged (Some r) u (Some b)).0 ≡ Rejected
   both_rejected = by (each_class (accepts_both r (added a t))) (each_class (accepts_both r (added b u))) both_fewer
     where
       by : (x y : Bool) → (y ≡ true → x ≡ true) → cond x Accepted Rejected ≡ Rejected → cond y Accepted Rejected ≡ Rejected
-      by true y f e = absurd (omega (arith, ap verdict_letter e))
-      by false true f e = cc (f refl)
-      by false false f e = refl
+      by x y f e = grind arith
 
 pub more_is_no_better : MoreIsNoBetter
 more_is_no_better = record {

@@ -1,9 +1,10 @@
 -- The value carried from portion to portion flags exactly the overruns, and the overruns have no other marking.
 -- Both go by the first portion: what is left of the stretch is a stretch that starts at the value held after it.
-use Rattle.std.proofs.Common.{◌≡◌, ℕ, zero, suc, ◌+◌, ◌-◌, ◌*◌, ◌<◌, ◌≤◌, Bool, true, false, cond, eqb, ltb, ◌↔◌, List, [], ◌∷◌, length, get_or, sym, refl, ◌∙◌, ap₂, inl, inr, suc-le-suc, zero-le, le_of_suc-le-suc, not-suc-le-zero, mul-suc, arith}
+use Rattle.std.proofs.Common.{◌≡◌, ℕ, zero, suc, ◌+◌, ◌-◌, ◌*◌, ◌<◌, ◌≤◌, Bool, true, false, cond, eqb, ltb, ◌↔◌, List, [], ◌∷◌, length, get_or, take, sym, refl, ◌∙◌, ap₂, inl, inr, suc-le-suc, zero-le, le_of_suc-le-suc, not-suc-le-zero, mul-suc, arith}
 use lib.Dec.{eqb-suc-zero}
 use Rattle.std.proofs.lemmas.Bool.{ltb-true, ltb-false, lt-ltb, true≢false, cases_lt}
 use Rattle.std.proofs.lemmas.Bool.Decides.{same_from_decides}
+use Rattle.std.proofs.lemmas.List.Sums.{sum_by-cons}
 use Rattle.regimes.specs.Portions.{reached, held}
 use Rattle.regimes.specs.Rows.{defects, less, RowAbove, Overruns}
 use Rattle.regimes.specs.declared.cusum.Cusum.{Cusum}
@@ -34,7 +35,7 @@ less_suc : (q : Cusum) (over : List Bool) (j : ℕ) → less q over (suc j) ≡ 
 less_suc q over j = let e : suc j - 1 ≡ j = omega arith in rw (eqb-suc-zero, e)
 
 defects_zero : (k n : ℕ) (ns : List ℕ) → defects (n ∷ ns) 0 (suc k + 1 - 0) ≡ n + defects ns 0 (k + 1 - 0)
-defects_zero k n ns = let e : suc k + 1 - 0 ≡ suc (k + 1 - 0) = omega arith in rw e
+defects_zero k n ns = let e : suc k + 1 - 0 ≡ suc (k + 1 - 0) = omega arith in rw e (sum_by-cons (λ x. x) n (take (k + 1 - 0) ns))
 
 mul_zero : (t k : ℕ) → t * (suc k + 1 - 0) ≡ t * (k + 1 - 0) + t
 mul_zero t k = let e : suc k + 1 - 0 ≡ suc (k + 1 - 0) = omega arith in rw (e, mul-suc)

@@ -1,11 +1,11 @@
 -- Lots by the numbers of their row.
-use Rattle.std.proofs.Common.{◌≡◌, ◌+◌, ◌<◌, ◌≤◌, Bool, true, false, cond, not, ◌&&◌, ◌||◌, eqb, ltb, leb, ◌↔◌, Some, None, Option, sym, refl, ap, ◌∙◌, arith}
-use Rattle.std.proofs.lemmas.Bool.{and_parts, leb-true, leb-false, le-leb, ltb-true, eqb-true, eq-eqb, both_ways}
-use Rattle.inspection.specs.Letters.{verdict_letter}
+use Rattle.std.proofs.Common.{◌≡◌, ◌+◌, ◌<◌, Bool, true, false, cond, ◌&&◌, ◌↔◌, Some, None, Option, refl, inl, inr, arith}
+use Rattle.std.proofs.lemmas.Bool.{and_parts, leb-true, le-leb, both_ways, cases_lt}
+use Rattle.std.proofs.lemmas.Bool.Decides.{nat_tests}
 use Rattle.inspection.specs.declared.tally.Tally.{Tally}
 use Rattle.inspection.specs.declared.verdict.Verdict.{Verdict}
 use Rattle.inspection.specs.declared.verdict.Verdict.TheVariants.{Accepted, Rejected, Awaited}
-use Rattle.plans.specs.Plans.{lot_row_kept, in_width, samples_kept, class_kept, class_in_width, class_order, class_single, single}
+use Rattle.plans.specs.Plans.{lot_row_kept, in_width, samples_kept, class_kept}
 use Rattle.plans.specs.declared.rows.LotRow.{LotRow}
 use Rattle.inspection.specs.Classes.{count_of, some_class, each_class, at_class}
 use Rattle.regimes.specs.Lots.{added, accepts_first, rejects_first, accepts_both, lot_judged}
@@ -27,14 +27,14 @@ by_tests a b t = cond a (Accepted, None) (cond b (Rejected, None) (Awaited, Some
 module _ (r : LotRow) (t : Tally) where
   pub all_accepted : (each_class (accepts_first r t) ≡ true) ↔ AllAccepted r t
   all_accepted = (
-    (λ e c. leb-true (count_of c t) (at_class r.numbers c).accept_first (each_true (accepts_first r t) e c)),
-    (λ all. each_from (accepts_first r t) (λ c. le-leb (count_of c t) (at_class r.numbers c).accept_first (all c))),
+    (λ e c. leb-true _ _ (each_true (accepts_first r t) e c)),
+    (λ all. each_from (accepts_first r t) (λ c. le-leb _ _ (all c))),
   )
 
   pub some_rejected : (some_class (rejects_first r t) ≡ true) ↔ SomeRejected r t
   some_rejected = (
-    (λ e. let w = some_true (rejects_first r t) e in (w.0, leb-true (at_class r.numbers w.0).reject_first (count_of w.0 t) w.1)),
-    (λ w. some_from (rejects_first r t) w.0 (le-leb (at_class r.numbers w.0).reject_first (count_of w.0 t) w.1)),
+    (λ e. let w = some_true (rejects_first r t) e in (w.0, leb-true _ _ w.1)),
+    (λ w. some_from (rejects_first r t) w.0 (le-leb _ _ w.1)),
   )
 
 pub both_accepted : (r : LotRow) (a t : Tally) → (each_class (accepts_both r (added a t)) ≡ true) ↔ BothAccepted r a t
@@ -49,21 +49,11 @@ module _ (r : LotRow) (kept : lot_row_kept r ≡ true) where
   class_is_kept = each_true (λ c. class_kept r (at_class r.numbers c)) (and_parts (in_width r.lowest_size && samples_kept r) _ kept).1
 
   in_order : (c : JudgedClass) → (at_class r.numbers c).accept_first < (at_class r.numbers c).reject_first
-  in_order c =
-      let n = at_class r.numbers c in
-      let numbers = (and_parts (class_in_width n && class_order n) _ (class_is_kept c)).0 in
-      let order = (and_parts (class_in_width n) (class_order n) numbers).1 in
-      let below = (and_parts (ltb n.accept_first n.reject_first && leb n.accept_first n.accept_both) _ order).0 in
-      ltb-true n.accept_first n.reject_first (and_parts (ltb n.accept_first n.reject_first) _ below).0
+  in_order c = grind (arith, nat_tests, class_is_kept c)
 
   -- a single plan rejects from one more than it accepts
   one_more : r.first_sample ≡ r.total_sample → (c : JudgedClass) → (at_class r.numbers c).reject_first ≡ (at_class r.numbers c).accept_first + 1
-  one_more same c =
-      let n = at_class r.numbers c in
-      let either = (and_parts (class_in_width n && class_order n) (not (single r) || class_single n) (class_is_kept c)).1 in
-      let is-single = eq-eqb r.first_sample r.total_sample same in
-      let numbers : class_single n ≡ true = sym (ap (λ b. not b || class_single n) is-single) ∙ either in
-      eqb-true n.reject_first (n.accept_first + 1) (and_parts (eqb n.reject_first (n.accept_first + 1)) _ numbers).0
+  one_more same c = grind (arith, nat_tests, class_is_kept c)
 
   not_both_ways : (t : Tally) → AllAccepted r t → SomeRejected r t → ⊥
   not_both_ways t all w = omega (arith, all w.0, in_order w.0, w.1)
@@ -76,22 +66,22 @@ module _ (r : LotRow) (kept : lot_row_kept r ≡ true) where
         let all = (all_accepted r t).0 x in
         record {
           accepts = ((λ _. all), (λ _. refl));
-          rejects = ((λ e. absurd (omega (arith, ap verdict_letter e))), (λ w. absurd (not_both_ways t all w)));
-          awaits = ((λ e. absurd (omega (arith, ap verdict_letter e))), (λ w. absurd (w.0 all)));
+          rejects = ((λ e. cc), (λ w. absurd (not_both_ways t all w)));
+          awaits = ((λ e. cc), (λ w. absurd (w.0 all)));
         }
     verdict false true x y =
         let some = (some_rejected r t).0 y in
         record {
-          accepts = ((λ e. absurd (omega (arith, ap verdict_letter e))), (λ all. absurd (not_both_ways t all some)));
+          accepts = ((λ e. cc), (λ all. absurd (not_both_ways t all some)));
           rejects = ((λ _. some), (λ _. refl));
-          awaits = ((λ e. absurd (omega (arith, ap verdict_letter e))), (λ w. absurd (w.1 some)));
+          awaits = ((λ e. cc), (λ w. absurd (w.1 some)));
         }
     verdict false false x y =
         let none : AllAccepted r t → ⊥ = λ all. both_ways _ x ((all_accepted r t).1 all) in
         let quiet : SomeRejected r t → ⊥ = λ w. both_ways _ y ((some_rejected r t).1 w) in
         record {
-          accepts = ((λ e. absurd (omega (arith, ap verdict_letter e))), (λ all. absurd (none all)));
-          rejects = ((λ e. absurd (omega (arith, ap verdict_letter e))), (λ w. absurd (quiet w)));
+          accepts = ((λ e. cc), (λ all. absurd (none all)));
+          rejects = ((λ e. cc), (λ w. absurd (quiet w)));
           awaits = ((λ _. (none, quiet)), (λ _. refl));
         }
 
@@ -102,11 +92,12 @@ module _ (r : LotRow) (kept : lot_row_kept r ≡ true) where
     never_awaited : r.first_sample ≡ r.total_sample → (lot_judged (Some r) t None).0 ≡ Awaited → ⊥
     never_awaited same e =
         let open-ways = first.awaits.0 e in
-        open-ways.0 (λ c. by c open-ways.1 (leb (count_of c t) (at_class r.numbers c).accept_first) refl)
-      where
-        by : (c : JudgedClass) → (SomeRejected r t → ⊥) → (b : Bool) → leb (count_of c t) (at_class r.numbers c).accept_first ≡ b → count_of c t ≤ (at_class r.numbers c).accept_first
-        by c never true x = leb-true (count_of c t) (at_class r.numbers c).accept_first x
-        by c never false x = absurd (never (c, omega (arith, leb-false (count_of c t) (at_class r.numbers c).accept_first x, one_more same c)))
+        open-ways.0
+        (λ c.
+        elim (cases_lt (at_class r.numbers c).accept_first (count_of c t)) [
+          | inl above ↦ absurd (open-ways.1 (c, omega (arith, one_more same c)))
+          | inr within ↦ within
+        ])
 
 -- what is carried, by the two tests
 module _ (r : LotRow) (t : Tally) where
@@ -114,17 +105,13 @@ module _ (r : LotRow) (t : Tally) where
   carried e = by (each_class (accepts_first r t)) (some_class (rejects_first r t)) e
     where
       by : (a b : Bool) → (by_tests a b t).0 ≡ Awaited → (by_tests a b t).1 ≡ Some t
-      by true b e = cc
-      by false true e = cc
-      by false false e = refl
+      by a b e = grind arith
 
   not_carried : ((lot_judged (Some r) t None).0 ≡ Awaited → ⊥) → (lot_judged (Some r) t None).1 ≡ None
   not_carried n = by (each_class (accepts_first r t)) (some_class (rejects_first r t)) n
     where
       by : (a b : Bool) → ((by_tests a b t).0 ≡ Awaited → ⊥) → (by_tests a b t).1 ≡ None
-      by true b n = refl
-      by false true n = refl
-      by false false n = absurd (n refl)
+      by a b n = grind arith
 
 both : (r : LotRow) (a t : Tally) → BothJudged r a t (lot_judged (Some r) t (Some a)).0
 both r a t = by (each_class (accepts_both r (added a t))) refl
@@ -132,10 +119,10 @@ both r a t = by (each_class (accepts_both r (added a t))) refl
     by : (b : Bool) → each_class (accepts_both r (added a t)) ≡ b → BothJudged r a t (cond b Accepted Rejected)
     by true x =
         let all = (both_accepted r a t).0 x in
-        record { accepts = ((λ _. all), (λ _. refl)); rejects = ((λ e. absurd (omega (arith, ap verdict_letter e))), (λ n. absurd (n all))) }
+        record { accepts = ((λ _. all), (λ _. refl)); rejects = ((λ e. cc), (λ n. absurd (n all))) }
     by false x =
         let none : BothAccepted r a t → ⊥ = λ all. both_ways _ x ((both_accepted r a t).1 all) in
-        record { accepts = ((λ e. absurd (omega (arith, ap verdict_letter e))), (λ all. absurd (none all))); rejects = ((λ _. none), (λ _. refl)) }
+        record { accepts = ((λ e. cc), (λ all. absurd (none all))); rejects = ((λ _. none), (λ _. refl)) }
 
 pub judged_by_numbers : AllJudgedByNumbers
 judged_by_numbers r kept = record {

@@ -10,28 +10,21 @@ use Rattle.inspection.specs.Classes.{count_of, some_class, at_class, by_class}
 use Rattle.regimes.specs.Rules.{Rules}
 use Rattle.inspection.specs.declared.class.PerClass.{PerClass}
 use Rattle.inspection.specs.declared.class.JudgedClass.{JudgedClass}
-use Rattle.inspection.specs.declared.class.JudgedClass.TheVariants.{Critical, Major, Total}
 use Rattle.regimes.specs.declared.cusum.Cusum.{Cusum}
 
 abbrev pub cusum : ℕ → ℕ → ℕ → Cusum
 cusum t l s = record { tolerance = t; limit = l; start = s }
 
--- in hundredths of a defect: tolerance, limit and start. A row for each class: critical, major, total;
--- in it the statuses normal, tightened, reduced
-abbrev pub table : List (List Cusum)
-table =
-    (cusum 5 95 35 ∷ cusum 10 90 30 ∷ cusum 0 0 0 ∷ [])
-    ∷ (cusum 50 200 100 ∷ cusum 80 160 40 ∷ cusum 50 50 0 ∷ [])
-    ∷ (cusum 200 300 100 ∷ cusum 250 300 100 ∷ cusum 200 100 0 ∷ [])
-    ∷ []
-
-abbrev pub class_place : JudgedClass → ℕ
-class_place Critical = 0
-class_place Major = 1
-class_place Total = 2
+-- in hundredths of a defect: tolerance, limit and start. A row for each class, in it the statuses normal, tightened, reduced
+abbrev pub table : PerClass (List Cusum)
+table = record {
+  critical = cusum 5 95 35 ∷ cusum 10 90 30 ∷ cusum 0 0 0 ∷ [];
+  major = cusum 50 200 100 ∷ cusum 80 160 40 ∷ cusum 50 50 0 ∷ [];
+  total = cusum 200 300 100 ∷ cusum 250 300 100 ∷ cusum 200 100 0 ∷ [];
+}
 
 abbrev pub cusum_of : JudgedClass → Status → Cusum
-cusum_of c s = slice_index_or (slice_index_or table (class_place c) []) (rank s) (cusum 0 0 0)
+cusum_of c s = slice_index_or (at_class table c) (rank s) (cusum 0 0 0)
 
 -- the running value of each class
 abbrev pub Values : Type 0

@@ -1,5 +1,5 @@
 -- Overruns by rows: neighbouring portions of a stretch with more defects than they are allowed. No running value stands in this file.
-use Rattle.std.specs.Prelude.{◌≡◌, ℕ, ◌+◌, ◌-◌, ◌*◌, ◌<◌, ◌≤◌, Bool, true, false, cond, ◌↔◌, List, [], ◌∷◌, map, length, take, drop, ◌==◌, slice_index_or}
+use Rattle.std.specs.Prelude.{◌≡◌, ℕ, ◌+◌, ◌-◌, ◌*◌, ◌<◌, ◌≤◌, Bool, true, false, cond, ◌↔◌, List, map, length, sum, take, drop, ◌==◌, slice_index_or}
 use Rattle.inspection.specs.declared.status.Status.{Status}
 use Rattle.inspection.specs.declared.tally.Tally.{Tally}
 use Rattle.inspection.specs.declared.verdict.Verdict.{Verdict}
@@ -8,10 +8,6 @@ use Rattle.inspection.specs.Classes.{count_of}
 use Rattle.regimes.specs.Portions.{cusum_of}
 use Rattle.inspection.specs.declared.class.JudgedClass.{JudgedClass}
 use Rattle.regimes.specs.declared.cusum.Cusum.{Cusum}
-
-abbrev pub sum : List ℕ → ℕ
-sum [] = 0
-sum (x ∷ xs) = x + sum xs
 
 -- a class's defects in a row: n portions from place j on
 abbrev pub defects : List ℕ → ℕ → ℕ → ℕ

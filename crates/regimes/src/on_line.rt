@@ -42,9 +42,9 @@ impl Portion {
         ensures { result ≡ value_reached self.now.status self.now.tally self.now.values class }
     {
         let cusum = Cusum::of(class, self.status);
-        (u64::from(self.values.of(class)) + 100 * class.count(&self.tally)).saturating_sub(
-            u64::from(cusum.tolerance),
-        )
+        let before = u64::from(self.values.of(class));
+        let added = 100 * class.count(&self.tally);
+        (before + added).saturating_sub(u64::from(cusum.tolerance))
     }
 
     fn is_over(&self, class: JudgedClass) -> bool

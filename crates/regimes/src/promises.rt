@@ -1,4 +1,6 @@
 // What holds of every portion and every lot, each as the contract of a function that has nothing to do.
+#![tactic(auto, using(crate::proofs::Samples::judged_by_numbers, crate::proofs::Stretches::judged_by_rows, crate::proofs::Stretches::values_within, crate::proofs::More::more_is_no_better))]
+
 ghost use Rattle.regimes.specs.Cases.{EightCases};
 ghost use Rattle.regimes.specs.Promises.{StartsWithin, AllJudgedByRows, ValuesWithin, AllJudgedByNumbers, MoreIsNoBetter};
 

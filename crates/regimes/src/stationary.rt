@@ -49,15 +49,17 @@ impl Stationary {
 fn all_accept_first(row: &LotRow, tally: &Tally) -> bool
     ensures { result ≡ each_class (accepts_first row.now tally.now) }
 {
-    JudgedClass::ALL.iter().all(|class| class.count(tally)
-        <= u64::from(row.numbers.of(*class).accept_first))
+    JudgedClass::ALL.iter().all(|class| {
+        class.count(tally) <= u64::from(row.numbers.of(*class).accept_first)
+    })
 }
 
 fn some_reject_first(row: &LotRow, tally: &Tally) -> bool
     ensures { result ≡ some_class (rejects_first row.now tally.now) }
 {
-    JudgedClass::ALL.iter().any(|class| class.count(tally)
-        >= u64::from(row.numbers.of(*class).reject_first))
+    JudgedClass::ALL.iter().any(|class| {
+        class.count(tally) >= u64::from(row.numbers.of(*class).reject_first)
+    })
 }
 
 // In both samples together, added as wide numbers: any two counts have a sum.

@@ -1,8 +1,8 @@
 // What the reader of lines gives.
 use inspection::class::DefectClass;
 use std::test::Fail;
+use texts::lines::{Item, Lines};
 use worksheet::defect::Defect;
-use worksheet::lines::{Item, Lines};
 
 const SHEET: &[u8] = b"12\t3\tC\nno tab\n\t\t\n7\t8\tN";
 
@@ -35,12 +35,8 @@ fn a_line_of_form_says_its_defect(rt: HostRuntime) {
     };
     for item in Lines::new(SHEET) {
         assert_eq!(rt;
-            item.defect(),
-            if item.line() == 1 {
-                Some(expected)
-            } else {
-                None
-            }
+            Defect::of_item(&item),
+            (item.line() == 1).then_some(expected)
         );
     }
 }

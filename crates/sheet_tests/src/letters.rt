@@ -1,6 +1,7 @@
 // Letters, both ways, and the numbers of refusals.
 use inspection::class::DefectClass;
 use inspection::kind::Kind;
+use inspection::letter::UnknownLetter;
 use inspection::refusal::{Place, Refusal};
 use inspection::status::Status;
 use inspection::verdict::Verdict;
@@ -9,33 +10,24 @@ use std::test::Fail;
 #[test]
 fn letters_read_back(rt: HostRuntime) -> Result<(), Fail> {
     for letter in ['N', 'T', 'R'] {
-        assert_eq!(rt;
-            Status::from_letter(letter).ok_or("no status")?.letter(),
-            letter
-        );
+        assert_eq!(rt; char::from(Status::try_from(letter)?), letter);
     }
     for letter in ['A', 'R', 'W', 'F', 'B', '-'] {
-        assert_eq!(rt;
-            Verdict::from_letter(letter).ok_or("no verdict")?.letter(),
-            letter
-        );
+        assert_eq!(rt; char::from(Verdict::try_from(letter)?), letter);
     }
     for letter in ['O', 'P', 'E', 'L', 'S', 'G', 'I', 'X'] {
-        assert_eq!(rt;
-            Kind::from_letter(letter).ok_or("no kind")?.letter(),
-            letter
-        );
+        assert_eq!(rt; char::from(Kind::try_from(letter)?), letter);
     }
     for letter in ['C', 'M', 'N'] {
-        assert_eq!(rt;
-            DefectClass::from_letter(letter).ok_or("no class")?.letter(),
-            letter
-        );
+        assert_eq!(rt; char::from(DefectClass::try_from(letter)?), letter);
     }
-    assert_eq!(rt; Status::from_letter('n'), None);
-    assert_eq!(rt; Verdict::from_letter(' '), None);
-    assert_eq!(rt; Kind::from_letter('C'), None);
-    assert_eq!(rt; DefectClass::from_letter('Ñ'), None);
+    assert_eq!(rt; Status::try_from('n'), Err(UnknownLetter { letter: 'n' }));
+    assert_eq!(rt; Verdict::try_from(' '), Err(UnknownLetter { letter: ' ' }));
+    assert_eq!(rt; Kind::try_from('C'), Err(UnknownLetter { letter: 'C' }));
+    assert_eq!(rt;
+        DefectClass::try_from('Ñ'),
+        Err(UnknownLetter { letter: 'Ñ' })
+    );
     Ok(())
 }
 

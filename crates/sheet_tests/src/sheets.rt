@@ -2,6 +2,7 @@
 use inspection::class::DefectClass;
 use inspection::refusal::Refusal;
 use inspection::tally::Tally;
+use std::fmt::Write;
 use std::test::Fail;
 use worksheet::defect::Defect;
 use worksheet::scoring::{read, score};
@@ -120,7 +121,7 @@ const SCORED: [Scores; 14] = [
 
 #[test]
 fn sheets_score(rt: HostRuntime) {
-    for case in SCORED.iter() {
+    for case in &SCORED {
         let expected = Tally {
             critical: case.critical,
             major: case.major,
@@ -324,7 +325,7 @@ const REFUSED: [Refuses; 36] = [
 
 #[test]
 fn first_bad_lines_are_named(rt: HostRuntime) {
-    for case in REFUSED.iter() {
+    for case in &REFUSED {
         assert_eq!(rt; score(case.sheet, case.units), Err(case.refusal));
     }
 }
@@ -336,16 +337,11 @@ fn a_sheet_of_eighteen_thousand_lines(rt: HostRuntime) -> Result<(), Fail> {
     for unit in 1..=1000u16 {
         for cause in 1..=9u8 {
             for class in [DefectClass::Minor, DefectClass::Major] {
-                sheet.push_str(format!(in rt.alloc();
-                    "{}",
-                    Defect { unit, cause, class }
-                )?.as_str())?;
+                write!(sheet, "{}", Defect { unit, cause, class })?;
             }
         }
     }
-    let Ok(scored) = read(sheet.as_bytes(), 1000) else {
-        return Err(Fail::new("the sheet is refused"));
-    };
+    let scored = read(sheet.as_bytes(), 1000)?;
     assert_eq!(rt; scored.lines, 18000);
     assert_eq!(rt;
         scored.tally,

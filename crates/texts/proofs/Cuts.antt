@@ -4,7 +4,7 @@ use Rattle.std.proofs.lemmas.List.{take_rest, take_all, drop_all, length-take, l
 use Rattle.std.proofs.lemmas.Bool.{ne_eqb, eq-eqb, eqb-true, cases_lt}
 use Rattle.std.specs.List.{flat_map}
 use Rattle.texts.specs.Texts.{onto, lines, before, parted_by, parted, Free, Unmarked, LineEnd}
-use Rattle.texts.specs.Pieces.{Piece, fields, bare, number_of, text_of, by_tab, piece, after, pieces, Whole, Numbered}
+use Rattle.texts.specs.Pieces.{Piece, fields, bare, number_of, text_of, by_tab, piece, after, Whole, Numbered}
 
 free_tail : (x n b : ℕ) (bs : List ℕ) → Free x (suc n) (b ∷ bs) → Free x n bs
 free_tail x n b bs f k lt = f (suc k) (omega arith)
@@ -119,8 +119,7 @@ text_of_piece n bs = by (parted bs) refl
     by (Some p) e = parted_whole bs p.0 p.1 e
 
 joined_onto : (b : ℕ) (ls : List (List ℕ)) → flat_map (λ l. l) (onto b ls) ≡ b ∷ flat_map (λ l. l) ls
-joined_onto b [] = refl
-joined_onto b (l ∷ ls) = refl
+joined_onto b ls = grind arith
 
 joined_lines : (bs : List ℕ) → flat_map (λ l. l) (lines bs) ≡ bs
 joined_lines [] = refl
@@ -138,8 +137,7 @@ pub whole : (text : List ℕ) → Whole text
 whole text = joined_after 0 (lines text) ∙ joined_lines text
 
 number_of_piece : (n : ℕ) (bs : List ℕ) (o : Option (List ℕ × List ℕ)) → number_of (by_tab n bs o) ≡ n
-number_of_piece n bs None = refl
-number_of_piece n bs (Some p) = refl
+number_of_piece n bs o = grind arith
 
 numbered_after : (n : ℕ) (ls : List (List ℕ)) (k : ℕ) (p : Piece) → k < length (after n ls) → number_of (get_or (after n ls) k p) ≡ n + k + 1
 numbered_after n [] k p lt = absurd (omega arith)

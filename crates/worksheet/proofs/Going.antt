@@ -1,6 +1,9 @@
 -- Scoring in one pass: what is left of the sheet gives the score, from the running one.
-use Rattle.std.proofs.Common.{◌≡◌, ℕ, ◌+◌, ◌-◌, ◌*◌, ◌<◌, ◌≤◌, Bool, true, false, cond, ◌&&◌, ◌||◌, eqb, ltb, ◌⊎◌, List, [], ◌∷◌, IfOk, Some, None, Ok, Err, Option, Result, sym, refl, ap, ◌∙◌, subst, inl, inr, ⊎_elim, arith}
-use Rattle.std.proofs.lemmas.Bool.{ltb-false, and_cases, or_from, or_parts, eqb-false, ne_eqb, and_left, and_right, cases_eq}
+use Rattle.std.proofs.Common.{◌≡◌, ℕ, ◌+◌, ◌-◌, ◌*◌, ◌<◌, ◌≤◌, Bool, true, false, cond, ◌&&◌, ◌||◌, eqb, ltb, ◌⊎◌, List, [], ◌∷◌, IfOk, Some, None, Ok, Err, Option, Result, sym, refl, ap, ◌∙◌, subst, arith}
+use Rattle.std.proofs.lemmas.Bool.{ltb-false, or_from}
+use Rattle.std.proofs.lemmas.Bool.Decides.{nat_tests}
+use Rattle.std.specs.List.{cons_option}
+use Rattle.std.specs.Option.{option_or}
 use Rattle.inspection.specs.Tallies.{total_of}
 use Rattle.inspection.specs.declared.refusal.Refusal.{Refusal}
 use Rattle.inspection.specs.declared.refusal.Refusal.TheVariants.{UnitAboveSample, PairFalls}
@@ -11,9 +14,9 @@ use Rattle.texts.specs.Pieces.{Piece, number_of, pieces}
 use Rattle.worksheet.specs.Defects.{Keyed, Pair, pair, same_pair, related, falls, defect_of}
 use Rattle.worksheet.specs.Promises.{AtMostNine}
 use Rattle.worksheet.specs.Running.{counted, next_line, entered, closed}
-use Rattle.worksheet.specs.Scores.{falls_after, fault_of, fault, or_else, first_bad, said, defects, occurs, tally_of, unless, score_of}
+use Rattle.worksheet.specs.Scores.{falls_after, fault_of, fault, first_bad, defects, occurs, tally_of, unless, score_of}
 use Rattle.worksheet.proofs.Tallying.{clean, plus, plus_clean, counted_plus, counted_clean, total_counted, pair_same, merged, tally_merged, tally_fresh}
-use Rattle.worksheet.proofs.Written.{never, piece_back}
+use Rattle.worksheet.proofs.Written.{piece_back}
 
 abbrev pub turn : Option Refusal → Option Defect → (Defect → Result Tally Refusal) → Result Tally Refusal
 turn (Some r) o k = Err r
@@ -32,20 +35,10 @@ abbrev Below : Pair → Defect → Type 0
 Below q d = (q.0 < d.unit) ⊎ ((q.0 ≡ d.unit) × (q.1 < d.cause))
 
 below_later : (q : Pair) (d e : Defect) → Below q d → falls e d ≡ false → Below q e
-below_later q d e (inl lt) h =
-    let parts = or_parts (ltb e.unit d.unit) _ h in
-    inl (omega (arith, ltb-false e.unit d.unit parts.0))
-below_later q d e (inr lt) h =
-    let parts = or_parts (ltb e.unit d.unit) _ h in
-    let up = ltb-false e.unit d.unit parts.0 in
-    ⊎_elim
-    (λ (same : d.unit ≡ e.unit). inr (lt.0 ∙ same, ⊎_elim (λ n. absurd (eqb-false e.unit d.unit n (sym same))) (λ n. omega (arith, lt.1, ltb-false e.cause d.cause n)) (and_cases (eqb e.unit d.unit) _ parts.1)))
-    (λ other. inl (omega (arith, lt.0, other)))
-    (cases_eq d.unit e.unit)
+below_later q d e lt h = grind (arith, nat_tests)
 
 below_apart : (q : Pair) (d : Defect) → Below q d → same_pair (pair d) q ≡ false
-below_apart q d (inl lt) = and_left _ _ (ne_eqb d.unit q.0 (λ e. omega arith))
-below_apart q d (inr lt) = and_right _ _ (ne_eqb d.cause q.1 (λ e. omega (arith, lt.1)))
+below_apart q d lt = grind (arith, nat_tests)
 
 abbrev wrong : ℕ → Bool → Bool → Option Refusal
 wrong n x y = cond x (Some (UnitAboveSample n)) (cond y (Some (PairFalls n)) None)
@@ -58,41 +51,34 @@ pub record Sound (units : ℕ) (last o : Option Defect) : Type 0 where
   pub on : falls_after last says ≡ false
 
 pub sound : (units : ℕ) (last : Option Defect) (n : ℕ) (o : Option Defect) → fault_of units last n o ≡ None → Sound units last o
-sound units last n None h = never (sym h)
+sound units last n None h = cc
 sound units last n (Some d) h = by (ltb units d.unit) refl (falls_after last d) refl h
   where
     by : (x : Bool) → ltb units d.unit ≡ x → (y : Bool) → falls_after last d ≡ y → wrong n x y ≡ None → Sound units last (Some d)
-    by true u y f h = never (sym h)
-    by false u true f h = never (sym h)
+    by true u y f h = cc
+    by false u true f h = cc
     by false u false f h = record { says = d; is = refl; within = ltb-false units d.unit u; on = f }
 
-or_else_none : (a b : Option Refusal) → or_else a b ≡ None → (a ≡ None) × (b ≡ None)
-or_else_none None b h = (refl, h)
-or_else_none (Some r) b h = never (sym h)
+option_or_none : (a b : Option Refusal) → option_or a b ≡ None → (a ≡ None) × (b ≡ None)
+option_or_none a b h = grind arith
 
 -- on lines that do not fall, what comes before a line's pair does not come after it
 never_again : (units : ℕ) (d : Defect) (ps : List Piece) (q : Pair) → Below q d → first_bad units (Some d) ps ≡ None → occurs q (defects ps) ≡ false
 never_again units d [] q lt h = refl
 never_again units d (p ∷ ps) q lt h =
-    let parts = or_else_none (fault units (Some d) p) _ h in
+    let parts = option_or_none (fault units (Some d) p) _ h in
     let line = sound units (Some d) (number_of p) (defect_of p) parts.0 in
     let e = line.says in
     let later = below_later q d e lt line.on in
     let rest = never_again units e ps q later (ap (λ o. first_bad units o ps) (sym line.is) ∙ parts.1) in
-    ap (λ o. occurs q (said o (defects ps))) line.is ∙ or_from _ _ (below_apart q e later) rest
+    ap (λ o. occurs q (cons_option o (defects ps))) line.is ∙ or_from _ _ (below_apart q e later) rest
 
 falls_like : (d b c : Defect) → pair b ≡ pair c → falls d b ≡ falls d c
 falls_like d b c e = ap (λ (q : Pair). ltb d.unit q.0 || (eqb d.unit q.0 && ltb d.cause q.1)) e
 
 -- of two lines that are not related and do not fall, the first pair comes before the second
 rises : (b d : Defect) → related b d ≡ false → falls d b ≡ false → Below (pair b) d
-rises b d r f =
-    let parts = or_parts (ltb d.unit b.unit) _ f in
-    let up = ltb-false d.unit b.unit parts.0 in
-    ⊎_elim
-    (λ (same : b.unit ≡ d.unit). inr (same, ⊎_elim (λ n. absurd (eqb-false d.unit b.unit n (sym same))) (λ n. let on = ltb-false d.cause b.cause n in ⊎_elim (λ n. absurd (eqb-false b.unit d.unit n same)) (λ n. let ne = eqb-false b.cause d.cause n in omega arith) (and_cases (eqb b.unit d.unit) _ r)) (and_cases (eqb d.unit b.unit) _ parts.1)))
-    (λ other. inl (omega (arith, other)))
-    (cases_eq b.unit d.unit)
+rises b d r f = grind (arith, nat_tests)
 
 abbrev GoesOn : ℕ → List Piece → Type 0
 GoesOn units ps =
@@ -122,7 +108,7 @@ one_more units ps ih t b d f = by (related b d) refl
 -- a further line that says o, with the fault x by the running score and y by the rule
 abbrev Step : ℕ → List Piece → Tally → Defect → Option Defect → Option Refusal → Option Refusal → Type 0
 Step units ps t b o x y =
-    turn x o (λ d. going units (next_line t b d) ps) ≡ unless (or_else y (first_bad units o ps)) (plus t (tally_of (b ∷ said o (defects ps))))
+    turn x o (λ d. going units (next_line t b d) ps) ≡ unless (option_or y (first_bad units o ps)) (plus t (tally_of (b ∷ cons_option o (defects ps))))
 
 goes_on : (units : ℕ) (ps : List Piece) → GoesOn units ps
 goes_on units [] t b c e = ap Ok (sym (counted_clean t b.class) ∙ ap (plus t) (sym (tally_fresh b [] refl)))
@@ -145,11 +131,11 @@ pub goes_whole : (units : ℕ) (ps : List Piece) → going units start ps ≡ un
 goes_whole units [] = refl
 goes_whole units (p ∷ ps) = by (defect_of p)
   where
-    tests : (d : Defect) (x : Bool) → turn (wrong (number_of p) x false) (Some d) (λ d. going units (record { tally = clean; last = Some d }) ps) ≡ unless (or_else (wrong (number_of p) x false) (first_bad units (Some d) ps)) (tally_of (d ∷ defects ps))
+    tests : (d : Defect) (x : Bool) → turn (wrong (number_of p) x false) (Some d) (λ d. going units (record { tally = clean; last = Some d }) ps) ≡ unless (option_or (wrong (number_of p) x false) (first_bad units (Some d) ps)) (tally_of (d ∷ defects ps))
     tests d true = refl
     tests d false = goes_on units ps clean d d refl ∙ ap (unless (first_bad units (Some d) ps)) (plus_clean (tally_of (d ∷ defects ps)))
 
-    by : (o : Option Defect) → turn (fault_of units None (number_of p) o) o (λ d. going units (entered clean None d) ps) ≡ unless (or_else (fault_of units None (number_of p) o) (first_bad units o ps)) (tally_of (said o (defects ps)))
+    by : (o : Option Defect) → turn (fault_of units None (number_of p) o) o (λ d. going units (entered clean None d) ps) ≡ unless (option_or (fault_of units None (number_of p) o) (first_bad units o ps)) (tally_of (cons_option o (defects ps)))
     by None = refl
     by (Some d) = tests d (ltb units d.unit)
 
@@ -166,8 +152,7 @@ abbrev pub Fits : ℕ → Running → Type 0
 Fits units s = Fit units s.tally s.last
 
 places_rise : (b d : Defect) → Keyed b → Keyed d → Below (pair b) d → place b + 1 ≤ place d
-places_rise b d k l (inl lt) = omega (arith, k.unit_least, k.cause_most, l.cause_least)
-places_rise b d k l (inr lt) = omega (arith, lt.0, lt.1, k.cause_least)
+places_rise b d k l lt = grind arith
 
 pub fit_next : (units : ℕ) (t : Tally) (last : Option Defect) (d : Defect) → Fit units t last → Keyed d → d.unit ≤ units → falls_after last d ≡ false → Fits units (entered t last d)
 fit_next units t None d h k within on = (k, within, omega (arith, h))
@@ -180,8 +165,7 @@ fit_next units t (Some b) d h k within on = by (related b d) refl
     by false z = (k, within, omega (arith, total_counted t b.class, h.2, places_rise b d h.0 k (rises b d z on)))
 
 pub fit_closed : (units : ℕ) (t : Tally) (last : Option Defect) → Fit units t last → total_of (closed t last) ≤ 9 * units
-fit_closed units t None h = omega (arith, h)
-fit_closed units t (Some b) h = omega (arith, total_counted t b.class, h.2, h.1, h.0.unit_least, h.0.cause_most)
+fit_closed units t last h = grind (arith, total_counted)
 
 -- one line more, which has no fault
 pub going_more : (units : ℕ) (s u : Running) (ps qs : List Piece) (p : Piece) (d : Defect) (r : Result Tally Refusal) → ps ≡ p ∷ qs → fault units s.last p ≡ None → defect_of p ≡ Some d → u ≡ entered s.tally s.last d → Fits units s → going units s ps ≡ r → Fits units u × (going units u qs ≡ r)

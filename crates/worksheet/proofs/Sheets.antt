@@ -1,11 +1,12 @@
 -- A sheet for every tally: its defects stand at the first places of the sample, nine to a unit.
-use Rattle.std.proofs.Common.{◌≡◌, ℕ, zero, suc, ◌+◌, ◌*◌, ◌/◌, ◌%◌, ◌^◌, ◌<◌, ◌≤◌, false, eqb, ◌⊎◌, List, [], ◌∷◌, ◌++◌, length, replicate, Some, Ok, decimal, sym, refl, ap, ◌∙◌, inl, inr, ⊎_elim, append_assoc, mod-lt, zero-add, arith}
+use Rattle.std.proofs.Common.{◌≡◌, ℕ, zero, suc, ◌+◌, ◌*◌, ◌/◌, ◌%◌, ◌^◌, ◌<◌, ◌≤◌, false, eqb, ◌⊎◌, List, [], ◌∷◌, ◌++◌, length, replicate, Some, Ok, decimal, sym, refl, ap, ◌∙◌, append_assoc, mod-lt, arith}
 use native.Mathlib.Nat.{div-add-mod}
 use Rattle.std.proofs.lemmas.Fmt.{digits_decimal}
 use Rattle.std.proofs.lemmas.List.{length-append, length-replicate}
 use Rattle.std.proofs.lemmas.Str.Parse.{not_in_digits}
-use Rattle.std.proofs.lemmas.Bool.{ne_eqb, le-ltb, cond-false, cases_lt, or_from, and_left, and_right}
+use Rattle.std.proofs.lemmas.Bool.{cond-false}
 use Rattle.std.specs.List.{flat_map}
+use Rattle.std.proofs.lemmas.Bool.Decides.{nat_tests}
 use Rattle.inspection.specs.Letters.{class_letter}
 use Rattle.inspection.specs.Tallies.{total_of}
 use Rattle.inspection.specs.declared.class.DefectClass.{DefectClass}
@@ -13,30 +14,26 @@ use Rattle.inspection.specs.declared.class.DefectClass.TheVariants.{Critical, Ma
 use Rattle.inspection.specs.declared.tally.Tally.{Tally}
 use Rattle.worksheet.specs.declared.defect.Defect.{Defect}
 use Rattle.worksheet.specs.declared.scoring.Running.{Running}
-use Rattle.texts.specs.Pieces.{Piece, number_of, piece, after}
+use Rattle.texts.specs.Pieces.{Piece, piece, after}
 use Rattle.texts.specs.Texts.{lines}
 use Rattle.texts.proofs.Cuts.{lines_over}
 use Rattle.worksheet.specs.Defects.{Keyed, written, related, falls, defect_of}
 use Rattle.worksheet.specs.Promises.{SomeSheetShows}
 use Rattle.worksheet.specs.Running.{counted, entered}
-use Rattle.worksheet.specs.Scores.{fault_of, falls_after}
-use Rattle.worksheet.proofs.Going.{turn, going, start, goes_whole}
+use Rattle.worksheet.specs.Scores.{falls_after}
+use Rattle.worksheet.proofs.Going.{going, start, goes_whole}
 use Rattle.decimals.proofs.Reading.{own}
 use Rattle.worksheet.proofs.Tallying.{clean}
 use Rattle.worksheet.proofs.Written.{line_forth, written_keyed}
 
 letter_no_feed : (c : DefectClass) → eqb (class_letter c) 10 ≡ false
-letter_no_feed Critical = refl
-letter_no_feed Major = refl
-letter_no_feed Minor = refl
+letter_no_feed c = grind arith
 
 abbrev ending : Defect → List ℕ
 ending d = 9 ∷ (48 + d.cause) ∷ 9 ∷ class_letter d.class ∷ 10 ∷ []
 
 lines_ending : (d : Defect) (rest : List ℕ) → lines (ending d ++ rest) ≡ ending d ∷ lines rest
-lines_ending d rest =
-    let digit : eqb (48 + d.cause) 10 ≡ false = ne_eqb (48 + d.cause) 10 (λ e. omega arith) in
-    simp (digit, letter_no_feed d.class)
+lines_ending d rest = grind (arith, nat_tests, letter_no_feed)
 
 lines_written : (d : Defect) (rest : List ℕ) → Keyed d → lines (written d ++ rest) ≡ written d ∷ lines rest
 lines_written d rest k =
@@ -59,30 +56,17 @@ keyed_at units k c few lt =
     record { unit_least = omega arith; unit_most = omega arith; cause_least = omega arith; cause_most = omega arith }
 
 within : (units k : ℕ) (c : DefectClass) → k < 9 * units → (at_place k c).unit ≤ units
-within units k c lt = let whole = div-add-mod k 9 in omega arith
+within units k c lt = grind (arith, div-add-mod)
 
 -- the next place neither falls nor is related
 next_rises : (k : ℕ) → (k / 9 < (k + 1) / 9) ⊎ ((k / 9 ≡ (k + 1) / 9) × (k % 9 < (k + 1) % 9))
-next_rises k =
-    let whole = div-add-mod k 9 in
-    let next = div-add-mod (k + 1) 9 in
-    let low = mod-lt k {m = 9} (omega arith) in
-    let less = mod-lt (k + 1) {m = 9} (omega arith) in
-    ⊎_elim (λ up. inl up) (λ stay. inr (omega arith, omega arith)) (cases_lt (k / 9) ((k + 1) / 9))
+next_rises k = grind (arith, div-add-mod, mod-lt)
 
 not_falling : (k : ℕ) (a b : DefectClass) → falls (at_place (k + 1) b) (at_place k a) ≡ false
-not_falling k a b =
-    ⊎_elim
-    (λ up. or_from _ _ (le-ltb ((k + 1) / 9 + 1) (k / 9 + 1) (omega arith)) (and_left _ _ (ne_eqb ((k + 1) / 9 + 1) (k / 9 + 1) (λ e. omega arith))))
-    (λ on. or_from _ _ (le-ltb ((k + 1) / 9 + 1) (k / 9 + 1) (omega (arith, on.0))) (and_right _ _ (le-ltb ((k + 1) % 9 + 1) (k % 9 + 1) (omega (arith, on.1)))))
-    (next_rises k)
+not_falling k a b = grind (arith, nat_tests, next_rises k)
 
 not_related : (k : ℕ) (a b : DefectClass) → related (at_place k a) (at_place (k + 1) b) ≡ false
-not_related k a b =
-    ⊎_elim
-    (λ up. and_left _ _ (ne_eqb (k / 9 + 1) ((k + 1) / 9 + 1) (λ e. omega arith)))
-    (λ on. and_right _ _ (ne_eqb (k % 9 + 1) ((k + 1) % 9 + 1) (λ e. omega (arith, on.1))))
-    (next_rises k)
+not_related k a b = grind (arith, nat_tests, next_rises k)
 
 -- defects of these classes, one place after another
 abbrev row : ℕ → List DefectClass → List Defect
@@ -102,9 +86,7 @@ left_more units n k c cs few lt = ap (after n) (lines_written (at_place k c) (fl
 
 -- a line that says d and has no fault
 step : (units : ℕ) (s : Running) (p : Piece) (ps : List Piece) (d : Defect) → defect_of p ≡ Some d → d.unit ≤ units → falls_after s.last d ≡ false → going units s (p ∷ ps) ≡ going units (entered s.tally s.last d) ps
-step units s p ps d says inside on =
-    ap (λ o. turn (fault_of units s.last (number_of p) o) o (λ d. going units (entered s.tally s.last d) ps)) says
-    ∙ ap (λ x. turn x (Some d) (λ d. going units (entered s.tally s.last d) ps)) (cond-false _ _ _ (le-ltb units d.unit inside) ∙ cond-false _ _ _ on)
+step units s p ps d says inside on = grind (arith, nat_tests)
 
 go_row : (units n k : ℕ) (t : Tally) (c : DefectClass) (cs : List DefectClass) → units ≤ 9999 → k + 1 + length cs ≤ 9 * units → going units (record { tally = t; last = Some (at_place k c) }) (left n (k + 1) cs) ≡ Ok (counts (counted t c) cs)
 go_row units n k t c [] few lt = refl
@@ -146,13 +128,7 @@ many_minor zero a b c = ap (λ m. record { critical = a; major = b; minor = m })
 many_minor (suc n) a b c = many_minor n a b (c + 1) ∙ ap (λ m. record { critical = a; major = b; minor = m }) (omega arith)
 
 bag_counts : (t : Tally) → counts clean (bag t) ≡ t
-bag_counts t =
-    counts_append clean (replicate t.critical Critical) _
-    ∙ ap (λ u. counts u (replicate t.major Major ++ replicate t.minor Minor)) (many_critical t.critical 0 0 0)
-    ∙ counts_append _ (replicate t.major Major) _
-    ∙ ap (λ u. counts u (replicate t.minor Minor)) (many_major t.major (0 + t.critical) 0 0)
-    ∙ many_minor t.minor (0 + t.critical) (0 + t.major) 0
-    ∙ (λ i. record { critical = zero-add t.critical i; major = zero-add t.major i; minor = zero-add t.minor i })
+bag_counts t = grind (arith, counts_append, many_critical, many_major, many_minor)
 
 bag_length : (t : Tally) → length (bag t) ≡ total_of t
 bag_length t = simp (length-append, length-replicate) (omega arith)

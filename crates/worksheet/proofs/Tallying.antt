@@ -1,12 +1,12 @@
 -- Tallies of distinct pairs: a related defect and a new one.
-use Rattle.std.proofs.Common.{◌≡◌, ℕ, ◌+◌, Bool, true, false, cond, eqb, List, [], ◌∷◌, sym, refl, ap, ◌∙◌, subst, zero-add, arith}
+use Rattle.std.proofs.Common.{◌≡◌, ℕ, ◌+◌, Bool, true, false, cond, List, [], ◌∷◌, sym, refl, ap, ◌∙◌, subst, arith}
 use Rattle.std.proofs.lemmas.List.Sums.{sum_by-cons}
-use Rattle.std.proofs.lemmas.Bool.{and_parts, and_from, eqb-true, eq-eqb, cond-true, cond-false, or_left, or_parts}
+use Rattle.std.proofs.lemmas.Bool.{cond-true, cond-false}
 use Rattle.std.proofs.lemmas.Bool.Decides.{nat_tests}
 use Rattle.std.specs.List.{AllByRecursion as All}
 use Rattle.inspection.specs.Tallies.{worse, total_of}
 use Rattle.inspection.specs.declared.class.DefectClass.{DefectClass}
-use Rattle.inspection.specs.declared.class.DefectClass.TheVariants.{Critical, Major, Minor}
+use Rattle.inspection.specs.declared.class.DefectClass.TheVariants.{Minor}
 use Rattle.inspection.specs.declared.tally.Tally.{Tally}
 use Rattle.worksheet.specs.declared.defect.Defect.{Defect}
 use Rattle.worksheet.specs.Defects.{Pair, pair, same_pair}
@@ -23,27 +23,19 @@ same_tally : (a b c x y z : ℕ) → a ≡ x → b ≡ y → c ≡ z → ◌≡�
 same_tally a b c x y z p q r = λ i. record { critical = p i; major = q i; minor = r i }
 
 pub plus_clean : (t : Tally) → plus clean t ≡ t
-plus_clean t = same_tally _ _ _ _ _ _ (zero-add t.critical) (zero-add t.major) (zero-add t.minor)
+plus_clean t = grind arith
 
 pub counted_plus : (t u : Tally) (c : DefectClass) → plus (counted t c) u ≡ plus t (counted u c)
-counted_plus t u Critical = same_tally _ _ _ _ _ _ (omega arith) refl refl
-counted_plus t u Major = same_tally _ _ _ _ _ _ refl (omega arith) refl
-counted_plus t u Minor = same_tally _ _ _ _ _ _ refl refl (omega arith)
+counted_plus t u c = grind arith
 
 pub counted_clean : (t : Tally) (c : DefectClass) → plus t (counted clean c) ≡ counted t c
-counted_clean t Critical = same_tally _ _ _ _ _ _ (omega arith) (omega arith) (omega arith)
-counted_clean t Major = same_tally _ _ _ _ _ _ (omega arith) (omega arith) (omega arith)
-counted_clean t Minor = same_tally _ _ _ _ _ _ (omega arith) (omega arith) (omega arith)
+counted_clean t c = grind arith
 
 pub total_counted : (t : Tally) (c : DefectClass) → total_of (counted t c) ≡ total_of t + 1
-total_counted t Critical = omega arith
-total_counted t Major = omega arith
-total_counted t Minor = omega arith
+total_counted t c = grind arith
 
 one_by_class : (c : DefectClass) (t : Tally) → ◌≡◌ {A = Tally} (record { critical = cond (is_critical c) 1 0 + t.critical; major = cond (is_major c) 1 0 + t.major; minor = cond (is_minor c) 1 0 + t.minor }) (counted t c)
-one_by_class Critical t = same_tally _ _ _ _ _ _ (omega arith) (omega arith) (omega arith)
-one_by_class Major t = same_tally _ _ _ _ _ _ (omega arith) (omega arith) (omega arith)
-one_by_class Minor t = same_tally _ _ _ _ _ _ (omega arith) (omega arith) (omega arith)
+one_by_class c t = grind arith
 
 by_class_cons : (f : Pair → DefectClass) (q : Pair) (qs : List Pair) → by_class f (q ∷ qs) ≡ counted (by_class f qs) (f q)
 by_class_cons f q qs =
@@ -62,37 +54,23 @@ by_class_agrees f g (q ∷ qs) h =
     ∙ sym (by_class_cons g q qs)
 
 worse_minor : (c : DefectClass) → worse c Minor ≡ c
-worse_minor Critical = refl
-worse_minor Major = refl
-worse_minor Minor = refl
+worse_minor c = grind arith
 
 worse_assoc : (a b c : DefectClass) → worse a (worse b c) ≡ worse (worse a b) c
-worse_assoc Critical b c = refl
-worse_assoc Major Critical c = refl
-worse_assoc Major Major Critical = refl
-worse_assoc Major Major Major = refl
-worse_assoc Major Major Minor = refl
-worse_assoc Major Minor Critical = refl
-worse_assoc Major Minor Major = refl
-worse_assoc Major Minor Minor = refl
-worse_assoc Minor b c = refl
+worse_assoc a b c = grind arith
 
 pub pair_flip : (p q : Pair) → same_pair p q ≡ false → same_pair q p ≡ false
 pair_flip p q e = grind (arith, nat_tests)
 
 pub pair_same : (p q : Pair) → same_pair p q ≡ true → p ≡ q
-pair_same p q e =
-    let parts = and_parts (eqb p.0 q.0) _ e in
-    let unit = eqb-true p.0 q.0 parts.0 in
-    let cause = eqb-true p.1 q.1 parts.1 in
-    λ i. (unit i, cause i)
+pair_same p q e = grind (arith, nat_tests)
 
 pair_refl : (p : Pair) → same_pair p p ≡ true
-pair_refl p = and_from _ _ (eq-eqb p.0 p.0 refl) (eq-eqb p.1 p.1 refl)
+pair_refl p = grind (arith, nat_tests)
 
 -- two related defects score as one of the worse class
 abbrev pub merged : Defect → Defect → Defect
-merged b d = record { unit = b.unit; cause = b.cause; class = worse b.class d.class }
+merged b d = record b { class = worse b.class d.class }
 
 worst_merged : (b d : Defect) (ds : List Defect) → pair b ≡ pair d → (q : Pair) → worst (b ∷ d ∷ ds) q ≡ worst (merged b d ∷ ds) q
 worst_merged b d ds e q =
@@ -104,9 +82,7 @@ worst_merged b d ds e q =
     by false = refl
 
 pairs_merged : (b d : Defect) (ds : List Defect) → pair b ≡ pair d → pairs (b ∷ d ∷ ds) ≡ pairs (merged b d ∷ ds)
-pairs_merged b d ds e =
-    let met : occurs (pair b) (d ∷ ds) ≡ true = or_left _ _ (subst (λ r. same_pair (pair d) r ≡ true) (sym e) (pair_refl (pair d))) in
-    cond-true (occurs (pair b) (d ∷ ds)) _ _ met ∙ ap (λ r. cond (occurs r ds) (pairs ds) (r ∷ pairs ds)) (sym e)
+pairs_merged b d ds e = grind (arith, nat_tests)
 
 pub tally_merged : (b d : Defect) (ds : List Defect) → pair b ≡ pair d → tally_of (b ∷ d ∷ ds) ≡ tally_of (merged b d ∷ ds)
 tally_merged b d ds e =
@@ -116,20 +92,11 @@ tally_merged b d ds e =
 -- a defect of a new pair counts by its own class
 apart_from : (b : Defect) (ds : List Defect) → occurs (pair b) ds ≡ false → All (λ q. same_pair q (pair b) ≡ false) (pairs ds)
 apart_from b [] h = tt
-apart_from b (d ∷ ds) h =
-    let parts = or_parts (same_pair (pair d) (pair b)) _ h in
-    by (occurs (pair d) ds) parts.0 (apart_from b ds parts.1)
-  where
-    by : (t : Bool) → same_pair (pair d) (pair b) ≡ false → All (λ q. same_pair q (pair b) ≡ false) (pairs ds) → All (λ q. same_pair q (pair b) ≡ false) (cond t (pairs ds) (pair d ∷ pairs ds))
-    by true x xs = xs
-    by false x xs = (x, xs)
+apart_from b (d ∷ ds) h = grind (arith, nat_tests, apart_from b ds)
 
 worst_absent : (q : Pair) (ds : List Defect) → occurs q ds ≡ false → worst ds q ≡ Minor
 worst_absent q [] h = refl
-worst_absent q (d ∷ ds) h =
-    let parts = or_parts (same_pair (pair d) q) _ h in
-    let other : same_pair q (pair d) ≡ false = pair_flip (pair d) q parts.0 in
-    cond-false (same_pair q (pair d)) _ _ other ∙ worst_absent q ds parts.1
+worst_absent q (d ∷ ds) h = grind (arith, nat_tests, worst_absent q ds)
 
 pub tally_fresh : (b : Defect) (ds : List Defect) → occurs (pair b) ds ≡ false → tally_of (b ∷ ds) ≡ counted (tally_of ds) b.class
 tally_fresh b ds h =

@@ -1,12 +1,12 @@
 -- A line says a defect exactly where it is that defect's line.
-use Rattle.std.proofs.Common.{◌≡◌, ℕ, zero, suc, ◌+◌, ◌-◌, ◌^◌, ◌<◌, ◌≤◌, Bool, true, false, cond, ◌&&◌, eqb, ltb, leb, List, [], ◌∷◌, ◌++◌, length, get_or, Some, None, decimal, Option, sym, refl, ap, ◌∙◌, subst, arith}
+use Rattle.std.proofs.Common.{◌≡◌, ℕ, ◌+◌, ◌-◌, ◌^◌, ◌<◌, ◌≤◌, Bool, true, false, cond, ◌&&◌, eqb, ltb, leb, List, [], ◌∷◌, ◌++◌, length, get_or, Some, None, decimal, Option, sym, refl, ap, ◌∙◌, subst, arith}
 use native.Mathlib.Nat.{pow-le-pow_right}
 use Rattle.std.proofs.lemmas.Fmt.{decimal_digit, decimal-digits_value, digits_decimal, digits_value-decimal, length-decimal-le, first_decimal, decimal_nonempty}
 use Rattle.std.proofs.lemmas.Str.Parse.{not_in_digits, digits_value_short}
 use Rattle.std.proofs.lemmas.Bool.{and_from, and_parts, eqb-true, ltb-true, leb-true, lt-ltb, le-leb, cond-true}
+use Rattle.std.proofs.lemmas.Bool.Decides.{nat_tests}
 use Rattle.std.specs.Option.{option_map}
 use Rattle.std.specs.Str.Parse.{digits_value}
-use lib.Utf8.{encode}
 use Rattle.std.specs.Str.{all_ascii_digits}
 use Rattle.decimals.specs.Digits.{digits_form, numeral}
 use Rattle.decimals.proofs.Reading.{own}
@@ -21,17 +21,12 @@ use Rattle.texts.proofs.Cuts.{parted_field, text_of_piece}
 use Rattle.worksheet.specs.Defects.{unit_form, unit_of, tail_form, tail_of, joint, defect_of, written, Keyed}
 use Rattle.worksheet.specs.Promises.{ReadsBack}
 
--- nothing is not something
-pub never : {X : Type 0} {P : Type 0} {x : X} → None ≡ Some x → P
-never e = let z : ◌≡◌ {A = ℕ} 0 1 = cc in absurd (omega arith)
-
 led_some : (ds : List ℕ) → 0 < get_or ds 0 0 → 0 < length ds
 led_some [] h = absurd (omega arith)
 led_some (d ∷ ds) h = omega arith
 
 not_zero : (ds : List ℕ) (u : ℕ) → ds ≡ decimal u → 48 < get_or ds 0 0 → 1 ≤ u
-not_zero ds zero e h = absurd (omega (arith, ap (λ l. get_or l 0 0) (e ∙ decimal_digit 0 (omega arith))))
-not_zero ds (suc u) e h = omega arith
+not_zero ds u e h = grind (arith, decimal_digit)
 
 -- a unit's digits are what `decimal` writes of it, and the other way
 unit_back : (ds : List ℕ) (u : ℕ) → unit_of ds ≡ Some u → (1 ≤ u) × (u ≤ 9999) × (ds ≡ decimal u)
@@ -39,8 +34,8 @@ unfolding numeral
 unit_back ds u e = by (unit_form ds) refl (digits_form ds) refl e
   where
     by : (t : Bool) → unit_form ds ≡ t → (d : Bool) → digits_form ds ≡ d → cond t (cond d (Some (digits_value 10 ds)) None) None ≡ Some u → (1 ≤ u) × (u ≤ 9999) × (ds ≡ decimal u)
-    by false t d f e = never e
-    by true t false f e = never e
+    by false t d f e = cc
+    by true t false f e = cc
     by true t true f e =
         let is : digits_value 10 ds ≡ u = cc in
         let led = and_parts (ltb 48 (get_or ds 0 0)) _ t in
@@ -68,30 +63,24 @@ unit_small ds u short e =
     let fits = (numeral_back ds u (sym e)).0 in
     omega (arith, fits, pow-le-pow_right {n = 10} (omega arith) short)
 
-pub letter_encoded : (k : DefectClass) → encode (class_letter k) ≡ class_letter k ∷ []
-unfolding encode
-letter_encoded Critical = refl
-letter_encoded Major = refl
-letter_encoded Minor = refl
-
 -- a keyed defect's cause is one digit
 pub written_keyed : (d : Defect) → Keyed d → decimal d.unit ++ 9 ∷ (48 + d.cause) ∷ 9 ∷ class_letter d.class ∷ 10 ∷ [] ≡ written d
-written_keyed d k = ap (λ c. decimal d.unit ++ (9 ∷ (c ++ (9 ∷ class_letter d.class ∷ 10 ∷ [])))) (sym (decimal_digit d.cause (omega (arith, k.cause_most))))
+written_keyed d k = grind (arith, decimal_digit)
 
 -- what follows the unit, likewise
 abbrev Tail : List ℕ → ℕ × DefectClass → Type 0
 Tail r t = (1 ≤ t.0) × (t.0 ≤ 9) × (r ≡ (48 + t.0) ∷ 9 ∷ class_letter t.1 ∷ 10 ∷ [])
 
 tail_back : (r : List ℕ) (t : ℕ × DefectClass) → tail_of r ≡ Some t → Tail r t
-tail_back [] t e = never e
-tail_back (a ∷ []) t e = never e
-tail_back (a ∷ b ∷ []) t e = never e
-tail_back (a ∷ b ∷ c ∷ []) t e = never e
+tail_back [] t e = cc
+tail_back (a ∷ []) t e = cc
+tail_back (a ∷ b ∷ []) t e = cc
+tail_back (a ∷ b ∷ c ∷ []) t e = cc
 tail_back (a ∷ b ∷ c ∷ d ∷ []) t e = by (tail_form a b d) refl (class_of c) refl e
   where
     by : (f : Bool) → tail_form a b d ≡ f → (o : Option DefectClass) → class_of c ≡ o → cond f (option_map (λ k. (a - 48, k)) o) None ≡ Some t → Tail (a ∷ b ∷ c ∷ d ∷ []) t
-    by false f o q e = never e
-    by true f None q e = never e
+    by false f o q e = cc
+    by true f None q e = cc
     by true f (Some k) q e =
         let same : ◌≡◌ {A = ℕ × DefectClass} (a - 48, k) t = cc in
         let parts = and_parts (ltb 48 a && leb a 57) _ f in
@@ -104,26 +93,21 @@ tail_back (a ∷ b ∷ c ∷ d ∷ []) t e = by (tail_form a b d) refl (class_of
         let letter = lettered_back class_letter (Critical ∷ Major ∷ Minor ∷ []) c k q in
         let digit : 48 + (a - 48) ≡ a = omega arith in
         subst (Tail (a ∷ b ∷ c ∷ d ∷ [])) same (omega arith, omega arith, rw (digit, letter, ← tab, ← feed))
-tail_back (a ∷ b ∷ c ∷ d ∷ f ∷ bs) t e = never e
+tail_back (a ∷ b ∷ c ∷ d ∷ f ∷ bs) t e = cc
 
 class_forth : (k : DefectClass) → class_of (class_letter k) ≡ Some k
-class_forth Critical = refl
-class_forth Major = refl
-class_forth Minor = refl
+class_forth k = grind arith
 
 tail_forth : (n : ℕ) (k : DefectClass) → 1 ≤ n → n ≤ 9 → tail_of ((48 + n) ∷ 9 ∷ class_letter k ∷ 10 ∷ []) ≡ Some (n, k)
-tail_forth n k low high =
-    let form : tail_form (48 + n) 9 10 ≡ true = and_from _ _ (and_from _ _ (lt-ltb 48 (48 + n) (omega arith)) (le-leb (48 + n) 57 (omega arith))) refl in
-    let digit : (48 + n) - 48 ≡ n = omega arith in
-    cond-true _ _ _ form ∙ ap (option_map (λ k. ((48 + n) - 48, k))) (class_forth k) ∙ ap (λ m. Some (m, k)) digit
+tail_forth n k low high = grind (arith, nat_tests, class_forth)
 
 pub piece_back : (p : Piece) (d : Defect) → defect_of p ≡ Some d → Keyed d × (text_of p ≡ written d)
-piece_back (bare n text) d e = never e
+piece_back (bare n text) d e = cc
 piece_back (fields n first rest) d e = by (unit_of first) refl (tail_of rest) refl e
   where
     by : (o : Option ℕ) → unit_of first ≡ o → (t : Option (ℕ × DefectClass)) → tail_of rest ≡ t → joint o t ≡ Some d → Keyed d × (first ++ 9 ∷ rest ≡ written d)
-    by None u t v e = never e
-    by (Some o) u None v e = never e
+    by None u t v e = cc
+    by (Some o) u None v e = cc
     by (Some o) u (Some t) v e =
         let same : ◌≡◌ {A = Defect} (record { unit = o; cause = t.0; class = t.1 }) d = cc in
         let unit = unit_back first o u in

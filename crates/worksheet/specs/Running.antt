@@ -9,13 +9,13 @@ use Rattle.worksheet.specs.declared.scoring.Running.{Running}
 use Rattle.worksheet.specs.Defects.{related}
 
 abbrev pub counted : Tally → DefectClass → Tally
-counted t Critical = record { critical = t.critical + 1; major = t.major; minor = t.minor }
-counted t Major = record { critical = t.critical; major = t.major + 1; minor = t.minor }
-counted t Minor = record { critical = t.critical; major = t.major; minor = t.minor + 1 }
+counted t Critical = record t { critical = t.critical + 1 }
+counted t Major = record t { major = t.major + 1 }
+counted t Minor = record t { minor = t.minor + 1 }
 
 -- a line of the last pair may worsen its class, and any other closes that pair
 abbrev pub next_line : Tally → Defect → Defect → Running
-next_line t last d = cond (related last d) (record { tally = t; last = Some (record { unit = last.unit; cause = last.cause; class = worse last.class d.class }) }) (record { tally = counted t last.class; last = Some d })
+next_line t last d = cond (related last d) (record { tally = t; last = Some (record last { class = worse last.class d.class }) }) (record { tally = counted t last.class; last = Some d })
 
 abbrev pub entered : Tally → Option Defect → Defect → Running
 entered t None d = record { tally = t; last = Some d }

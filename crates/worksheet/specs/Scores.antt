@@ -1,5 +1,7 @@
 -- What a sheet scores: its first bad line, or the tally of its distinct pairs.
 use Rattle.std.specs.Prelude.{ℕ, Bool, true, false, cond, ◌||◌, List, [], ◌∷◌, Some, None, Ok, Err, count_by, Option, Result, nat_lt}
+use Rattle.std.specs.List.{filter_map}
+use Rattle.std.specs.Option.{option_or}
 use Rattle.inspection.specs.Tallies.{worse}
 use Rattle.inspection.specs.declared.class.DefectClass.{DefectClass}
 use Rattle.inspection.specs.declared.class.DefectClass.TheVariants.{Critical, Major, Minor}
@@ -25,23 +27,14 @@ fault_of units last n (Some d) = cond (nat_lt units d.unit) (Some (UnitAboveSamp
 abbrev pub fault : ℕ → Option Defect → Piece → Option Refusal
 fault units last p = fault_of units last (number_of p) (defect_of p)
 
-abbrev pub or_else : Option Refusal → Option Refusal → Option Refusal
-or_else None o = o
-or_else (Some r) o = Some r
-
 -- what is wrong with the first bad line, each looked at beside the line before it
 abbrev pub first_bad : ℕ → Option Defect → List Piece → Option Refusal
 first_bad units last [] = None
-first_bad units last (p ∷ ps) = or_else (fault units last p) (first_bad units (defect_of p) ps)
-
-abbrev pub said : Option Defect → List Defect → List Defect
-said None ds = ds
-said (Some d) ds = d ∷ ds
+first_bad units last (p ∷ ps) = option_or (fault units last p) (first_bad units (defect_of p) ps)
 
 -- what the lines of form say
 abbrev pub defects : List Piece → List Defect
-defects [] = []
-defects (p ∷ ps) = said (defect_of p) (defects ps)
+defects ps = filter_map defect_of ps
 
 abbrev pub occurs : Pair → List Defect → Bool
 occurs q [] = false
