@@ -1,21 +1,20 @@
 -- What a call with a sheet comes to again, by the units of its sample.
-use Rattle.std.proofs.Common.{◌≡◌, ℕ, ◌+◌, ◌*◌, ◌≤◌, Bool, true, false, cond, not, leb, List, [], ◌∷◌, length, is_some, Some, None, Ok, Err, Option, Result, refl, ap, ◌∙◌, arith}
+use Rattle.std.proofs.Common.{◌≡◌, ℕ, ◌*◌, ◌≤◌, Bool, true, false, cond, not, leb, List, [], ◌∷◌, length, is_some, Some, None, Ok, Err, Option, Result, refl, ap, ◌∙◌, arith}
 use Rattle.std.specs.Result.{result_ok}
 use Rattle.inspection.specs.declared.refusal.Refusal.{Refusal}
 use Rattle.inspection.specs.declared.refusal.Refusal.TheVariants.{LotAwaits, NoRoom, LotSizeOutOfRange, BookUnsound, SheetLineNotOfForm}
 use Rattle.inspection.specs.declared.tally.Tally.{Tally}
-use Rattle.inspection.specs.declared.verdict.Verdict.{Verdict}
-use Rattle.inspection.specs.declared.verdict.Verdict.TheVariants.{Accepted, Rejected, Awaited, Full, Brief, Undecided}
 use Rattle.inspection.specs.Tallies.{total_of}
 use Rattle.entries.specs.declared.entry.Entry.{Entry}
 use Rattle.regimes.specs.Rules.{Rules}
 use Rattle.runs.specs.declared.standing.Standing.{Standing}
 use Rattle.runs.specs.declared.standing.Taken.{Taken}
 use Rattle.runs.specs.History.{first, fault, scored, enter_lot}
-use Rattle.runs.specs.Lines.{counted_on, awaiting, told, lot_taken, sample, or_zero}
+use Rattle.runs.specs.Lines.{lot_taken, sample, or_zero}
 use Rattle.runs.specs.Runs.{showing}
-use Rattle.line.specs.Doing.{units_unless, lot_sample, lot_judged_at, lot_taken_at}
+use Rattle.line.specs.Doing.{units_unless, lot_sample, lot_taken_at}
 use Rattle.line.specs.declared.sample.Sample.{Sample}
+use Rattle.line.proofs.Sheets.{lot_same}
 use Rattle.line.specs.Replaying.{sample_showing, taken_unless, retaken_by}
 
 module _ {C : Type 0} (t : Tally) (K : ℕ → Tally → Taken C) where
@@ -45,21 +44,6 @@ module _ {C : Type 0} (t : Tally) (K : ℕ → Tally → Taken C) where
   retaken_by_sample (Some k) xs u = refl
   retaken_by_sample None xs u = sheet_last xs u
 
--- the code's number of an entry is the ruled one, since no book has so many entries
-pub lot_at : {C : Type 0} (r : Rules C) (before z u : ℕ) (t : Tally) (x : Verdict × C) (st : Standing C) (es : List Entry) → length es ≡ before → before ≤ 9999999
-    → lot_judged_at r before z u t x st es ≡ lot_taken r z u t x st es
-lot_at {C} r before z u t x st es is few = by x.0 x.1
-  where
-    by : (v : Verdict) (c : C) → lot_judged_at r before z u t (v, c) st es ≡ lot_taken r z u t (v, c) st es
-    by Accepted c = refl
-    by Rejected c = refl
-    by Awaited c =
-        let number : counted_on before ≡ length es + 1 = omega arith in
-        ap (λ n. record { reply = told Awaited st.status (Some n); standing = awaiting n z c st; writes = (lot_taken r z u t (Awaited, c) st es).writes }) number
-    by Full c = refl
-    by Brief c = refl
-    by Undecided c = refl
-
 was_ok : (u : ℕ) (found : Result ℕ Refusal) → Some u ≡ result_ok found → Ok u ≡ found
 was_ok u (Ok v) e = let same : u ≡ v = cc in ap {B = Result ℕ Refusal} (λ n. Ok n) same
 was_ok u (Err x) e = let z : ◌≡◌ {A = ℕ} 0 1 = cc in absurd (omega arith)
@@ -84,7 +68,7 @@ module _ {C : Type 0} (r : Rules C) (st : Standing C) (es : List Entry) (e : Ent
       → taken ≡ lot_taken_at r before e.lot_size a.units a.tally st es → Some taken ≡ retaken_by r (Some (enter_lot e.lot_size [])) e st es
   lot_again before u found a taken is few sampled units shows came =
       let shown = sample_shown u e.tally a shows in
-      ap {B = Option (Taken C)} (λ k. Some k) (came ∙ ap (λ (a : Sample). lot_taken_at r before e.lot_size a.units a.tally st es) shown.1 ∙ lot_at r before e.lot_size u e.tally (r.judged st.status e.lot_size e.tally st.carried) st es is few)
+      ap {B = Option (Taken C)} (λ k. Some k) (came ∙ ap (λ (a : Sample). lot_taken_at r before e.lot_size a.units a.tally st es) shown.1 ∙ lot_same r before e.lot_size u e.tally (r.judged st.status e.lot_size e.tally st.carried).0 (r.judged st.status e.lot_size e.tally st.carried).1 st es (omega arith))
       ∙ ap (λ b. cond b (Some (lot_with u e.tally)) None) shown.0
       ∙ ap (by_sample e.tally lot_with) (was_ok u found units ∙ sampled)
       ∙ lot_by_sample

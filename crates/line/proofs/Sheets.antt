@@ -105,7 +105,7 @@ module _ {C : Type 0} (r : Rules C) (st : Standing C) (es : List Entry) (n : ℕ
         faulty b w (or_zero (sample r st due)) sampled.0 e bad ∙ sampled.1
 
 -- a lot under the number that the code counts to
-lot_same : {C : Type 0} (r : Rules C) (before z u : ℕ) (t : Tally) (v : Verdict) (c : C) (st : Standing C) (es : List Entry) → counted_on before ≡ length es + 1 → lot_judged_at r before z u t (v, c) st es ≡ lot_taken r z u t (v, c) st es
+pub lot_same : {C : Type 0} (r : Rules C) (before z u : ℕ) (t : Tally) (v : Verdict) (c : C) (st : Standing C) (es : List Entry) → counted_on before ≡ length es + 1 → lot_judged_at r before z u t (v, c) st es ≡ lot_taken r z u t (v, c) st es
 lot_same r before z u t Accepted c st es e = refl
 lot_same r before z u t Rejected c st es e = refl
 lot_same r before z u t Awaited c st es e = λ i. record {

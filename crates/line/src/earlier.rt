@@ -50,6 +50,7 @@ impl<'a, B: Book> Earlier<'a, B> {
     }
 
     // The last of them, and those before it.
+    #[tactic(auto, using(crate::proofs::ReadBack::none_last, crate::proofs::ReadBack::some_last, crate::proofs::ReadBack::some_left))]
     fn split_last(&self) -> Option<(Entry, Earlier<'a, B>)>
         ensures { MatchOption result (self.now ≡ []) (λ x. self.now ≡ x.1 ++ x.0 ∷ []) }
     {
@@ -62,6 +63,7 @@ impl<'a, B: Book> Earlier<'a, B> {
     }
 
     // The first sample that awaits its second after them.
+    #[tactic(auto, using(crate::proofs::ReadBack::first_at_lot, crate::proofs::ReadBack::first_at_second, crate::proofs::ReadBack::first_passed))]
     fn first_sample(&self) -> Option<Sample>
         ensures { result ≡ as_held (reading self.now).first_sample }
     {
@@ -77,6 +79,7 @@ impl<'a, B: Book> Earlier<'a, B> {
     }
 
     // The article that an entry after them decides, if any.
+    #[tactic(auto, using(crate::proofs::ReadBack::within_together))]
     fn article(&self, entry: Entry) -> Seen
         ensures value { result ≡ seen_entry entry self.now }
         ensures within { Within 2 result }

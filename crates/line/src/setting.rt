@@ -1,8 +1,8 @@
 // Setting a line on a book: its entries are replayed, each as the call that would have written it.
-ghost use Rattle.std.specs.Prelude.{◌≡◌, ◌<◌, true, false, [], length, take, Some};
+ghost use Rattle.std.specs.Prelude.{◌≡◌, ◌<◌, [], length, take, Some};
 ghost use Rattle.runs.specs.History.{open_period, enter_portion, end_period, enter_lot, enter_second, grant_relief, report_irregular};
 ghost use Rattle.runs.specs.Lines.{due_number};
-ghost use Rattle.runs.specs.Runs.{call_for, unsound_at, replay_one, replay};
+ghost use Rattle.runs.specs.Runs.{unsound_at, replay_one, replay};
 ghost use Rattle.line.specs.Replaying.{sample_showing, left_by, retaken_call, retaken_by, retaken};
 
 use crate::line::Line;

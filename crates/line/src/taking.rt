@@ -184,6 +184,7 @@ where
     }
 
     // The standing after an article with the verdict, where the judge carries `carried`: a new spell where the status turns.
+    #[tactic(auto, using(crate::proofs::Noted::noted_turned, crate::proofs::Noted::noted_kept))]
     fn after_article(
         &self,
         before: u32,
@@ -409,6 +410,7 @@ where
         Ok(())
     }
 
+    #[tactic(auto, using(crate::proofs::Noted::last_last))]
     fn check_window(&self, before: u32) -> Result<(), Refusal>
         ensures { result ≡ answered (seen_refusal (R.Regime.rules self.now.regime) (seen_of (in_window (R.Regime.rules self.now.regime) self.now.standing (take before (B.Book.entries self.now.book))))) }
     {
