@@ -2,17 +2,17 @@
 use Rattle.std.proofs.Common.{◌≡◌, ℕ, ◌*◌, ◌≤◌, Bool, true, false, cond, not, leb, List, [], ◌∷◌, length, is_some, Some, None, Ok, Err, Option, Result, refl, ap, ◌∙◌, arith}
 use Rattle.std.specs.Result.{result_ok}
 use Rattle.inspection.specs.declared.refusal.Refusal.{Refusal}
-use Rattle.inspection.specs.declared.refusal.Refusal.TheVariants.{LotAwaits, NoRoom, LotSizeOutOfRange, BookUnsound, SheetLineNotOfForm}
+use Rattle.inspection.specs.declared.refusal.Refusal.TheVariants.{LotAwaits, NoLotAwaits, NoRoom, LotSizeOutOfRange, BookUnsound, SheetLineNotOfForm}
 use Rattle.inspection.specs.declared.tally.Tally.{Tally}
 use Rattle.inspection.specs.Tallies.{total_of}
 use Rattle.entries.specs.declared.entry.Entry.{Entry}
 use Rattle.regimes.specs.Rules.{Rules}
 use Rattle.runs.specs.declared.standing.Standing.{Standing}
 use Rattle.runs.specs.declared.standing.Taken.{Taken}
-use Rattle.runs.specs.History.{first, fault, scored, enter_lot}
-use Rattle.runs.specs.Lines.{lot_taken, sample, or_zero}
+use Rattle.runs.specs.History.{first, fault, scored, enter_lot, enter_second}
+use Rattle.runs.specs.Lines.{lot_taken, sample, or_zero, second_taken, due_size, due_number, is_due, reading}
 use Rattle.runs.specs.Runs.{showing}
-use Rattle.line.specs.Doing.{units_unless, lot_sample, lot_taken_at}
+use Rattle.line.specs.Doing.{units_unless, lot_sample, lot_taken_at, second_sample}
 use Rattle.line.specs.declared.sample.Sample.{Sample}
 use Rattle.line.proofs.Sheets.{lot_same}
 use Rattle.line.specs.Replaying.{sample_showing, taken_unless, retaken_by}
@@ -72,3 +72,14 @@ module _ {C : Type 0} (r : Rules C) (st : Standing C) (es : List Entry) (e : Ent
       ∙ ap (λ b. cond b (Some (lot_with u e.tally)) None) shown.0
       ∙ ap (by_sample e.tally lot_with) (was_ok u found units ∙ sampled)
       ∙ lot_by_sample
+
+  abbrev due : ℕ
+  due = due_size st.waiting
+
+  -- a second sample that has no units is not taken again
+  pub second_unsampled_again : (found : Result ℕ Refusal) → None ≡ result_ok found → found ≡ second_sample r st 1 (due_number st.waiting) → None ≡ retaken_by r (Some (enter_second (due_number st.waiting) [])) e st es
+  second_unsampled_again (Ok u) none sampled = let z : ◌≡◌ {A = ℕ} 0 1 = cc in absurd (omega arith)
+  second_unsampled_again (Err x) none sampled =
+      let K : ℕ → Tally → Taken C = λ u t. second_taken r due u t (r.judged st.status due t st.carried) (reading es).first_sample st es in
+      ap (by_sample e.tally K) sampled
+      ∙ retaken_by_sample e.tally K st.unsound ((not (cond st.slip_out (is_due (due_number st.waiting) st.waiting) false), NoLotAwaits) ∷ (leb 1 0, NoRoom) ∷ (not (is_some (sample r st due)), LotSizeOutOfRange) ∷ []) (or_zero (sample r st due))
