@@ -17,7 +17,9 @@ fn items_put_together_are_the_text(rt: HostRuntime) -> Result<(), Fail> {
             Item::Bare { text, .. } => together.extend_from_slice(text)?,
         }
     }
-    let lines: Vec<usize> = Lines::new(TEXT).map(|item| item.line()).collect(rt.alloc())?;
+    let lines: Vec<usize> = Lines::new(TEXT)
+        .map(|item| item.line())
+        .collect(rt.alloc())?;
     assert!(rt; together.as_slice() == TEXT);
     assert!(rt; lines.as_slice() == [1, 2, 3, 4].as_slice());
     Ok(())
