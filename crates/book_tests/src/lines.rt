@@ -42,7 +42,7 @@ fn each_field_at_its_ends_reads_back(rt: HostRuntime) {
 
 #[test]
 fn each_letter_reads_back(rt: HostRuntime) {
-    for status in [Status::Normal, Status::Tightened, Status::Reduced] {
+    for status in Status::ALL {
         for verdict in [
             Verdict::Accepted,
             Verdict::Rejected,

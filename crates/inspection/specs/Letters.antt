@@ -1,5 +1,5 @@
 -- The letter of each case, and the case of each letter. Letters are the numbers of their characters.
-use Rattle.std.specs.Prelude.{◌≡◌, ℕ, cond, ◌↔◌, List, [], ◌∷◌, Some, None, Ok, Option, Result, ◌==◌, ok_or}
+use Rattle.std.specs.Prelude.{◌≡◌, ℕ, cond, ◌↔◌, List, [], ◌∷◌, Some, None, Ok, Option, Result, ◌==◌, ok_or, ◌++◌, codes, encode_utf8}
 use Rattle.inspection.specs.declared.status.Status.{Status}
 use Rattle.inspection.specs.declared.status.Status.TheVariants.{Normal, Tightened, Reduced}
 use Rattle.inspection.specs.declared.verdict.Verdict.{Verdict}
@@ -59,3 +59,7 @@ class_of = lettered class_letter (Critical ∷ Major ∷ Minor ∷ [])
 pub record LetterRead {X : Type 0} (letter : X → ℕ) (case_of : ℕ → Option X) (c : ℕ) (r : Result X UnknownLetter) : Type 0 where
   pub value : r ≡ ok_or (case_of c) (record { letter = c })
   pub inverse : (x : X) → (r ≡ Ok x) ↔ (letter x ≡ c)
+
+-- as people are told of it
+abbrev pub told : UnknownLetter → List ℕ
+told e = codes "no case has the letter " ++ encode_utf8 e.letter

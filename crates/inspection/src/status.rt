@@ -14,6 +14,10 @@ pub enum Status {
     Reduced,
 }
 
+impl Status {
+    pub const ALL: [Status; 3] = [Status::Normal, Status::Tightened, Status::Reduced];
+}
+
 impl From<Status> for char {
     ghost from_gives = { λ x c. c ≡ status_letter x };
 

@@ -14,7 +14,7 @@ const NONE_ACCEPTED: ClassNumbers = ClassNumbers {
 #[test]
 fn the_fresh_plan_has_a_row_for_every_lot(rt: HostRuntime) -> Result<(), Fail> {
     let plan = PlanBook::fresh(rt.alloc())?;
-    for status in [Status::Normal, Status::Tightened, Status::Reduced] {
+    for status in Status::ALL {
         let row = LotRow {
             status,
             lowest_size: 1,

@@ -12,7 +12,7 @@ use std::test::Fail;
 #[test]
 fn the_fresh_plan_accepts_no_defect(rt: HostRuntime) -> Result<(), Fail> {
     let lots = Stationary::new(PlanBook::fresh(rt.alloc())?);
-    for status in [Status::Normal, Status::Tightened, Status::Reduced] {
+    for status in Status::ALL {
         for size in [1, 9_999_999] {
             assert_eq!(rt; lots.sample_units(status, size, None), Some(1));
             for (counts, verdict) in [

@@ -11,123 +11,144 @@ use worksheet::scoring::{read, score};
 struct Scores {
     sheet: &'static [u8],
     units: u32,
-    critical: u32,
-    major: u32,
-    minor: u32,
+    tally: Tally,
 }
 
 const SCORED: [Scores; 14] = [
     Scores {
         sheet: b"",
         units: 25,
-        critical: 0,
-        major: 0,
-        minor: 0,
+        tally: Tally {
+            critical: 0,
+            major: 0,
+            minor: 0,
+        },
     },
     Scores {
         sheet: b"",
         units: 0,
-        critical: 0,
-        major: 0,
-        minor: 0,
+        tally: Tally {
+            critical: 0,
+            major: 0,
+            minor: 0,
+        },
     },
     Scores {
         sheet: b"3\t1\tM\n",
         units: 25,
-        critical: 0,
-        major: 1,
-        minor: 0,
+        tally: Tally {
+            critical: 0,
+            major: 1,
+            minor: 0,
+        },
     },
     Scores {
         sheet: b"25\t9\tC\n",
         units: 25,
-        critical: 1,
-        major: 0,
-        minor: 0,
+        tally: Tally {
+            critical: 1,
+            major: 0,
+            minor: 0,
+        },
     },
     Scores {
         sheet: b"9999\t1\tN\n",
         units: 9999,
-        critical: 0,
-        major: 0,
-        minor: 1,
+        tally: Tally {
+            critical: 0,
+            major: 0,
+            minor: 1,
+        },
     },
     // Related defects score once, as the most serious, in every order of their classes.
     Scores {
         sheet: b"3\t1\tC\n3\t1\tM\n3\t1\tN\n",
         units: 25,
-        critical: 1,
-        major: 0,
-        minor: 0,
+        tally: Tally {
+            critical: 1,
+            major: 0,
+            minor: 0,
+        },
     },
     Scores {
         sheet: b"3\t1\tM\n3\t1\tN\n3\t1\tC\n",
         units: 25,
-        critical: 1,
-        major: 0,
-        minor: 0,
+        tally: Tally {
+            critical: 1,
+            major: 0,
+            minor: 0,
+        },
     },
     Scores {
         sheet: b"3\t1\tN\n3\t1\tC\n3\t1\tM\n",
         units: 25,
-        critical: 1,
-        major: 0,
-        minor: 0,
+        tally: Tally {
+            critical: 1,
+            major: 0,
+            minor: 0,
+        },
     },
     Scores {
         sheet: b"3\t1\tN\n3\t1\tM\n",
         units: 25,
-        critical: 0,
-        major: 1,
-        minor: 0,
+        tally: Tally {
+            critical: 0,
+            major: 1,
+            minor: 0,
+        },
     },
     Scores {
         sheet: b"3\t1\tM\n3\t1\tN\n",
         units: 25,
-        critical: 0,
-        major: 1,
-        minor: 0,
+        tally: Tally {
+            critical: 0,
+            major: 1,
+            minor: 0,
+        },
     },
     Scores {
         sheet: b"3\t1\tN\n3\t1\tN\n",
         units: 25,
-        critical: 0,
-        major: 0,
-        minor: 1,
+        tally: Tally {
+            critical: 0,
+            major: 0,
+            minor: 1,
+        },
     },
     // Equal units with rising causes, and equal causes with rising units, are different pairs.
     Scores {
         sheet: b"3\t1\tM\n3\t2\tN\n3\t9\tC\n",
         units: 25,
-        critical: 1,
-        major: 1,
-        minor: 1,
+        tally: Tally {
+            critical: 1,
+            major: 1,
+            minor: 1,
+        },
     },
     Scores {
         sheet: b"1\t9\tM\n2\t1\tM\n10\t1\tM\n",
         units: 25,
-        critical: 0,
-        major: 3,
-        minor: 0,
+        tally: Tally {
+            critical: 0,
+            major: 3,
+            minor: 0,
+        },
     },
     Scores {
         sheet: b"1\t1\tN\n1\t1\tN\n2\t2\tC\n2\t2\tM\n2\t3\tM\n",
         units: 2,
-        critical: 1,
-        major: 1,
-        minor: 1,
+        tally: Tally {
+            critical: 1,
+            major: 1,
+            minor: 1,
+        },
     },
 ];
 
 #[test]
 fn sheets_score(rt: HostRuntime) {
     for case in &SCORED {
-        let expected = Tally {
-            critical: case.critical,
-            major: case.major,
-            minor: case.minor,
-        };
-        assert_eq!(rt; score(case.sheet, case.units), Ok(expected));
+        assert_eq!(rt; score(case.sheet, case.units), Ok(case.tally));
     }
 }
 

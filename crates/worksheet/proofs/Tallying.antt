@@ -59,9 +59,6 @@ worse_minor c = grind arith
 worse_assoc : (a b c : DefectClass) → worse a (worse b c) ≡ worse (worse a b) c
 worse_assoc a b c = grind arith
 
-pub pair_flip : (p q : Pair) → same_pair p q ≡ false → same_pair q p ≡ false
-pair_flip p q e = grind (arith, nat_tests)
-
 pub pair_same : (p q : Pair) → same_pair p q ≡ true → p ≡ q
 pair_same p q e = grind (arith, nat_tests)
 
