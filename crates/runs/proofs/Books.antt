@@ -196,7 +196,7 @@ module _ {C : Type 0} (r : Rules C) where
       roomy_here : leb (suc n) 0 ≡ false
       roomy_here = lt-leb (suc n) 0 (omega arith)
 
-      -- what no slip is out of is left so by a replayed call
+      -- where no slip is out, giving it out and taking it back changes nothing
       still : (s : Standing C) → is_out s.waiting ≡ false → s ≡ with_slip false (with_slip true s)
       still s none = sym (with_again false true s ∙ with_there false s none)
 

@@ -86,7 +86,7 @@ abbrev pub slip_of : Option WaitingLot → Option ℕ
 slip_of None = None
 slip_of (Some l) = Some l.number
 
--- whether the waiting lot's slip is out, and whether it is the slip with the number k
+-- whether the waiting lot's slip is out, and whether it is out under the number k
 abbrev pub is_out : Option WaitingLot → Bool
 is_out None = false
 is_out (Some l) = l.slip_out
