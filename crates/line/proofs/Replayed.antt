@@ -25,6 +25,7 @@ use Rattle.runs.specs.declared.standing.Taken.{Taken}
 use Rattle.runs.specs.History.{Call}
 use Rattle.runs.specs.Lines.{due_number, with_slip, refuses, takes}
 use Rattle.runs.specs.Runs.{is_entry, kind_code, verdict_code, same_tally, call_for, showing, unsound_at, held_to, replayed_by, replay_one, replay_on}
+use Rattle.runs.proofs.Slips.{moved_number}
 use Rattle.line.proofs.ReadBack.{some_same, some_not_none}
 use Rattle.line.specs.Replaying.{taken_unless, left_by, retaken_by, retaken}
 
@@ -87,6 +88,7 @@ module _ {C : Type 0} (r : Rules C) (st : Standing C) (es : List Entry) (e : Ent
   replayed n k bad sound number taken unsound =
       let call = call_for r.portions e.kind e.lot_size (due_number st.waiting) in
       (λ i. left_by e (taken i) ((unsound ∙ ap (λ m. unsound_at m st) number) i))
+      ∙ ap (λ m. left_by e (retaken_by r (call_for r.portions e.kind e.lot_size m) e (with_slip true st) es) (unsound_at (length es + 1) st)) (moved_number true st.waiting)
       ∙ left_replayed call
       ∙ ap (λ o. elim o [ Some m ↦ st | None ↦ replayed_by r call e st es ]) (none_there st.unsound sound)
 

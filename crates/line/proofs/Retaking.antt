@@ -10,7 +10,7 @@ use Rattle.regimes.specs.Rules.{Rules}
 use Rattle.runs.specs.declared.standing.Standing.{Standing}
 use Rattle.runs.specs.declared.standing.Taken.{Taken}
 use Rattle.runs.specs.History.{first, fault, scored, enter_lot, enter_second}
-use Rattle.runs.specs.Lines.{lot_taken, sample, or_zero, second_taken, due_size, due_number, is_due, reading}
+use Rattle.runs.specs.Lines.{lot_taken, sample, or_zero, second_taken, due_size, due_number, has_slip, reading}
 use Rattle.runs.specs.Runs.{showing}
 use Rattle.line.specs.Doing.{units_unless, lot_sample, lot_taken_at, second_sample}
 use Rattle.line.specs.declared.sample.Sample.{Sample}
@@ -82,4 +82,4 @@ module _ {C : Type 0} (r : Rules C) (st : Standing C) (es : List Entry) (e : Ent
   second_unsampled_again (Err x) none sampled =
       let K : ℕ → Tally → Taken C = λ u t. second_taken r due u t (r.judged st.status due t st.carried) (reading es).first_sample st es in
       ap (by_sample e.tally K) sampled
-      ∙ retaken_by_sample e.tally K st.unsound ((not (cond st.slip_out (is_due (due_number st.waiting) st.waiting) false), NoLotAwaits) ∷ (leb 1 0, NoRoom) ∷ (not (is_some (sample r st due)), LotSizeOutOfRange) ∷ []) (or_zero (sample r st due))
+      ∙ retaken_by_sample e.tally K st.unsound ((not (has_slip (due_number st.waiting) st.waiting), NoLotAwaits) ∷ (leb 1 0, NoRoom) ∷ (not (is_some (sample r st due)), LotSizeOutOfRange) ∷ []) (or_zero (sample r st due))

@@ -1,5 +1,5 @@
 -- Calls with a sheet: the tests before the sheet, then the sheet's own fault.
-use Rattle.std.proofs.Common.{◌≡◌, ℕ, ◌+◌, ◌≤◌, Bool, true, false, cond, not, leb, List, [], ◌∷◌, length, take, is_some, Some, None, Ok, Err, Option, Result, sym, refl, ap, ◌∙◌, arith}
+use Rattle.std.proofs.Common.{◌≡◌, ℕ, ◌+◌, ◌≤◌, Bool, true, false, not, leb, List, [], ◌∷◌, length, take, is_some, Some, None, Ok, Err, Option, Result, sym, refl, ap, ◌∙◌, arith}
 use Rattle.std.proofs.lemmas.List.{take_all}
 use Rattle.inspection.specs.declared.refusal.Refusal.{Refusal}
 use Rattle.inspection.specs.declared.refusal.Refusal.TheVariants.{NoPeriodOpen, LotAwaits, NoLotAwaits, LotSizeOutOfRange, NoRoom, BookUnsound}
@@ -14,7 +14,7 @@ use Rattle.runs.specs.declared.standing.Reply.{Reply}
 use Rattle.runs.specs.declared.standing.Standing.{Standing}
 use Rattle.runs.specs.declared.standing.Taken.{Taken}
 use Rattle.runs.specs.History.{Call, enter_portion, enter_lot, enter_second, first, fault, scored}
-use Rattle.runs.specs.Lines.{told, counted_on, awaiting, reading, or_zero, due_size, is_due, sample, refuses, takes, step, portion_taken, lot_taken, second_taken}
+use Rattle.runs.specs.Lines.{told, counted_on, awaiting, reading, or_zero, due_size, has_slip, sample, refuses, takes, step, portion_taken, lot_taken, second_taken}
 use Rattle.runs.specs.Runs.{Served}
 use Rattle.runs.specs.Writing.{sheet_score, WritesOnlyWritable}
 use Rattle.line.specs.declared.line.Line.{Line}
@@ -86,7 +86,7 @@ module _ {C : Type 0} (r : Rules C) (st : Standing C) (es : List Entry) (n : ℕ
     due = due_size st.waiting
 
     abbrev no_slip : Bool
-    no_slip = not (cond st.slip_out (is_due number st.waiting) false)
+    no_slip = not (has_slip number st.waiting)
 
     pub second_unsampled : (e : Refusal) → Err e ≡ second_sample r st room number → Some e ≡ refuses r sheet_score (enter_second number b) st es n
     second_unsampled e h =

@@ -1,5 +1,5 @@
 -- What a call comes to, in the steps that the code takes.
-use Rattle.std.specs.Prelude.{◌≡◌, ℕ, Bool, true, false, cond, not, List, [], ◌∷◌, is_err, is_some, Some, None, Ok, Err, Option, Result, nat_le}
+use Rattle.std.specs.Prelude.{◌≡◌, ℕ, Bool, true, cond, not, List, [], ◌∷◌, is_err, is_some, Some, None, Ok, Err, Option, Result, nat_le}
 use Rattle.inspection.specs.declared.refusal.Refusal.{Refusal}
 use Rattle.inspection.specs.declared.refusal.Refusal.TheVariants.{NoPeriodOpen, LotAwaits, NoLotAwaits, LotSizeOutOfRange, NoRoom, BookUnsound}
 use Rattle.inspection.specs.declared.kind.Kind.{Kind}
@@ -18,7 +18,7 @@ use Rattle.runs.specs.Writing.{sheet_score}
 use Rattle.runs.specs.declared.standing.Reply.{Reply}
 use Rattle.runs.specs.declared.standing.Standing.{Standing}
 use Rattle.runs.specs.History.{Call, first, no_defects, is_awaited, is_rejected}
-use Rattle.runs.specs.Lines.{counted_on, awaiting, with_slip, after_article, turned_to, told, bare, Outcome, refuses, takes, settled, step, sample, or_zero, is_due, due_size}
+use Rattle.runs.specs.Lines.{counted_on, awaiting, after_article, turned_to, told, bare, Outcome, refuses, takes, settled, step, sample, or_zero, has_slip, due_size}
 
 -- answer, standing, entries and room after a call are the defined ones
 abbrev pub ComesTo : {C : Type 0} → Outcome C → Result Reply Refusal → Standing C → List Entry → ℕ → Type 0
@@ -78,7 +78,7 @@ module _ {C : Type 0} (r : Rules C) (st : Standing C) (n : ℕ) where
   abbrev pub second_sample : ℕ → Result ℕ Refusal
   second_sample k =
       units_unless
-      (if_sound (first ((not (cond st.slip_out (is_due k st.waiting) false), NoLotAwaits) ∷ (nat_le n 0, NoRoom) ∷ (not (is_some (sample r st (due_size st.waiting))), LotSizeOutOfRange) ∷ []) None))
+      (if_sound (first ((not (has_slip k st.waiting), NoLotAwaits) ∷ (nat_le n 0, NoRoom) ∷ (not (is_some (sample r st (due_size st.waiting))), LotSizeOutOfRange) ∷ []) None))
       (or_zero (sample r st (due_size st.waiting)))
 
 abbrev pub without_lot : {C : Type 0} → Standing C → Standing C
@@ -92,7 +92,7 @@ module _ {C : Type 0} (r : Rules C) where
   -- the standing after an article that was rejected or not
   abbrev pub article_noted : Standing C → List Entry → Bool → C → Standing C
   article_noted st es rejected c =
-      after_article r st es (record { rejected = rejected; units = 0; tally = no_defects }) st.period st.waiting st.slip_out c
+      after_article r st es (record { rejected = rejected; units = 0; tally = no_defects }) st.period st.waiting c
 
   abbrev pub turned_by : Kind → Status → Standing C → Taken C
   turned_by k s st = record { reply = told Undecided s None; standing = turned_to r s st; writes = Some (bare k st.status Undecided) }
@@ -102,25 +102,24 @@ module _ {C : Type 0} (r : Rules C) where
   lot_awaited before z c writes st =
       record { reply = told Awaited st.status (Some (counted_on before)); standing = awaiting (counted_on before) z c st; writes = writes }
 
+  -- a lot judged by the entry, of which the article is rejected or not; nothing waits after it
+  abbrev pub lot_decided : Entry → C → Standing C → List Entry → Taken C
+  lot_decided e c st es =
+      let noted = article_noted st es (is_rejected e.verdict) c in
+      record { reply = told e.verdict noted.status None; standing = without_lot noted; writes = Some e }
+
   abbrev pub lot_judged_at : ℕ → ℕ → ℕ → Tally → Verdict × C → Standing C → List Entry → Taken C
   lot_judged_at before z u t x st es =
       let entry : Entry = record { kind = kind.Lot; status = st.status; verdict = x.0; lot_size = z; units = u; tally = t } in
-      cond (is_awaited x.0) (lot_awaited before z x.1 (Some entry) st) (record {
-        reply = told x.0 (article_noted st es (is_rejected x.0) x.1).status None;
-        standing = without_lot (article_noted st es (is_rejected x.0) x.1);
-        writes = Some entry;
-      })
+      cond (is_awaited x.0) (lot_awaited before z x.1 (Some entry) st) (lot_decided entry x.1 st es)
 
   abbrev pub lot_taken_at : ℕ → ℕ → ℕ → Tally → Standing C → List Entry → Taken C
   lot_taken_at before z u t st es = lot_judged_at before z u t (r.judged st.status z t st.carried) st es
 
-  -- a second sample of the waiting lot; nothing waits after it
+  -- a second sample of the waiting lot
   abbrev pub second_judged_at : ℕ → Tally → Verdict × C → Standing C → List Entry → Taken C
-  second_judged_at u t x st es = record {
-    reply = told x.0 (article_noted st es (is_rejected x.0) x.1).status None;
-    standing = with_slip false (without_lot (article_noted st es (is_rejected x.0) x.1));
-    writes = Some (record { kind = kind.SecondSample; status = st.status; verdict = x.0; lot_size = due_size st.waiting; units = u; tally = t });
-  }
+  second_judged_at u t x st es =
+      lot_decided (record { kind = kind.SecondSample; status = st.status; verdict = x.0; lot_size = due_size st.waiting; units = u; tally = t }) x.1 st es
 
   abbrev pub second_taken_at : ℕ → Tally → Standing C → List Entry → Taken C
   second_taken_at u t st es = second_judged_at u t (r.judged st.status (due_size st.waiting) t st.carried) st es

@@ -7,6 +7,7 @@ ghost use Rattle.line.specs.Slips.{lot_answer, shown_answer, SlipGiven, SlipBack
 use crate::line::Line;
 use crate::sample::Sample;
 use crate::slip::{Refused, Slip};
+use crate::taking::with_slip;
 use books::book::Book;
 use inspection::refusal::Refusal;
 use inspection::status::Status;
@@ -64,7 +65,7 @@ impl<B: Book> Line<Stationary, B> {
         ensures { DoesCall B.Book.entries B.Book.room (plan_rules self.old.regime.plan) (hand_in number) self.old result self.new }
     {
         self.check_hand_in(number)?;
-        self.standing.slip_out = false;
+        self.standing = with_slip(self.standing, false);
         Ok(Reply {
             verdict: Verdict::Undecided,
             status: self.standing.status,
@@ -78,7 +79,7 @@ impl<B: Book> Line<Stationary, B> {
         ensures slip { SlipGiven result }
     {
         self.check_reissue()?;
-        self.standing.slip_out = true;
+        self.standing = with_slip(self.standing, true);
         let reply = Reply {
             verdict: Verdict::Undecided,
             status: self.standing.status,

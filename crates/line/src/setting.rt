@@ -7,6 +7,7 @@ ghost use Rattle.line.specs.Replaying.{sample_showing, left_by, retaken_call, re
 
 use crate::line::Line;
 use crate::sample::Sample;
+use crate::taking::with_slip;
 use books::book::Book;
 use entries::entry::Entry;
 use inspection::kind::Kind;
@@ -20,10 +21,7 @@ fn left_by<C: Copy>(entry: Entry, taken: Option<Taken<C>>, bad: Standing<C>) -> 
     ensures { result ≡ left_by entry taken bad }
 {
     match taken {
-        Some(taken) if taken.writes == Some(entry) => Standing {
-            slip_out: false,
-            ..taken.standing
-        },
+        Some(taken) if taken.writes == Some(entry) => with_slip(taken.standing, false),
         _ => bad,
     }
 }
@@ -31,11 +29,11 @@ fn left_by<C: Copy>(entry: Entry, taken: Option<Taken<C>>, bad: Standing<C>) -> 
 fn unsound_at<C: Copy>(number: u32, standing: Standing<C>) -> Standing<C>
     ensures { result ≡ unsound_at number standing }
 {
-    Standing {
-        slip_out: false,
+    let unsound = Standing {
         unsound: Some(number),
         ..standing
-    }
+    };
+    with_slip(unsound, false)
 }
 
 // A sample of so many units that showed the tally, where some sheet could.
@@ -138,7 +136,7 @@ where
             return;
         }
         let bad = unsound_at(before + 1, self.standing);
-        self.standing.slip_out = true;
+        self.standing = with_slip(self.standing, true);
         self.standing = left_by(entry, self.retaken(before, entry), bad);
     }
 
@@ -153,7 +151,6 @@ where
             spell: 0,
             period: None,
             waiting: None,
-            slip_out: false,
             carried: regime.starting(Status::Normal),
             unsound: None,
         };

@@ -4,10 +4,10 @@ ghost use Rattle.std.specs.Option.{ok_or};
 ghost use Rattle.inspection.specs.declared.refusal.Refusal.TheVariants as refused;
 ghost use Rattle.books.specs.Books.{answered};
 ghost use Rattle.runs.specs.History.{first, is_rejected, open_period, end_period, hand_in, reissue as reissuing, grant_relief, report_irregular};
-ghost use Rattle.runs.specs.Lines.{in_window, bare, fullness, is_due, due_size, slip_of, one_more, sample, told, turned_to, portion_taken};
+ghost use Rattle.runs.specs.Lines.{in_window, bare, fullness, has_slip, with_slip, due_size, slip_of, one_more, sample, told, turned_to, portion_taken};
 ghost use Rattle.runs.specs.Spells.{turned as turning};
 ghost use Rattle.line.specs.Seeing.{seen_of, seen_refusal};
-ghost use Rattle.line.specs.Doing.{checked, taken_by, judged_entry, lot_taken_at, lot_awaited, second_taken_at, article_noted, turned_by, unsound_refusal, portion_sample, lot_sample, second_sample};
+ghost use Rattle.line.specs.Doing.{checked, taken_by, judged_entry, lot_decided, lot_taken_at, lot_awaited, second_taken_at, article_noted, turned_by, unsound_refusal, portion_sample, lot_sample, second_sample};
 
 use crate::earlier::Earlier;
 use crate::line::Line;
@@ -49,6 +49,16 @@ fn written<C: Copy>(entry: Entry, standing: Standing<C>) -> Taken<C>
         },
         standing,
         writes: Some(entry),
+    }
+}
+
+// The waiting lot, where one waits, with its slip out or not.
+pub(crate) fn with_slip<C: Copy>(standing: Standing<C>, slip_out: bool) -> Standing<C>
+    ensures { result ≡ with_slip slip_out standing }
+{
+    Standing {
+        waiting: standing.waiting.map(|lot| WaitingLot { slip_out, ..lot }),
+        ..standing
     }
 }
 
@@ -295,6 +305,13 @@ where
         if entry.verdict == Verdict::Awaited {
             return self.lot_awaited(before, carried, entry);
         }
+        self.lot_decided(before, carried, entry)
+    }
+
+    // The lot is judged by the entry, and none waits after it.
+    fn lot_decided(&self, before: u32, carried: R::Carried, entry: Entry) -> Taken<R::Carried>
+        ensures { result ≡ lot_decided (R.Regime.rules self.now.regime) entry carried self.now.standing (take before (B.Book.entries self.now.book)) }
+    {
         let standing = Standing {
             waiting: None,
             ..self.after_article(before, entry.verdict, carried)
@@ -309,8 +326,11 @@ where
         let number = before.saturating_add(1);
         let size = entry.lot_size;
         let standing = Standing {
-            waiting: Some(WaitingLot { number, size }),
-            slip_out: true,
+            waiting: Some(WaitingLot {
+                number,
+                size,
+                slip_out: true,
+            }),
             carried,
             ..self.standing
         };
@@ -326,11 +346,11 @@ where
     }
 
     fn has_slip(&self, number: u32) -> bool
-        ensures { result ≡ (if self.now.standing.slip_out then is_due number self.now.standing.waiting else false) }
+        ensures { result ≡ has_slip number self.now.standing.waiting }
     {
         self.standing
             .waiting
-            .is_some_and(|lot| self.standing.slip_out && lot.number == number)
+            .is_some_and(|lot| lot.slip_out && lot.number == number)
     }
 
     // The size of the waiting lot.
@@ -363,12 +383,7 @@ where
         ensures { result ≡ second_taken_at (R.Regime.rules self.now.regime) sample.units sample.tally self.now.standing (take before (B.Book.entries self.now.book)) }
     {
         let (entry, carried) = self.judged(Kind::SecondSample, self.waiting_size(), sample);
-        let standing = Standing {
-            waiting: None,
-            slip_out: false,
-            ..self.after_article(before, entry.verdict, carried)
-        };
-        written(entry, standing)
+        self.lot_decided(before, carried, entry)
     }
 
     pub(crate) fn check_hand_in(&self, number: u32) -> Result<(), Refusal>
@@ -385,13 +400,11 @@ where
         ensures { result ≡ checked (R.Regime.rules self.now.regime) reissuing self.now.standing [] 0 }
     {
         self.check_sound()?;
-        if self.standing.waiting.is_none() {
-            return Err(Refusal::NoLotAwaits);
+        match self.standing.waiting {
+            None => Err(Refusal::NoLotAwaits),
+            Some(lot) if lot.slip_out => Err(Refusal::SlipIsOut),
+            Some(_) => Ok(()),
         }
-        if self.standing.slip_out {
-            return Err(Refusal::SlipIsOut);
-        }
-        Ok(())
     }
 
     // Relief by what is seen of the last window.

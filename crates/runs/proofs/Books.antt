@@ -16,13 +16,13 @@ use Rattle.inspection.specs.Statuses.{same_status}
 use Rattle.runs.specs.History.{Call, open_period, enter_portion, end_period, enter_lot, enter_second, hand_in, reissue, grant_relief, report_irregular, Event, Article, is_awaited, is_rejected, first, fault, scored, verdicts, units_of, above}
 use Rattle.regimes.specs.Rules.{Rules}
 use Rattle.runs.specs.declared.standing.Standing.{Standing}
-use Rattle.runs.specs.declared.standing.WaitingLot.{WaitingLot}
 use Rattle.runs.specs.declared.standing.Taken.{Taken}
-use Rattle.runs.specs.Lines.{reading, or_zero, due_size, due_number, put, left, with_slip, awaiting, settled, is_due, sample, in_window, after_article, portion_taken, lot_taken, second_taken, refuses_sound, refuses, takes, step}
+use Rattle.runs.specs.Lines.{reading, or_zero, due_size, due_number, put, left, is_out, has_slip, with_slip, awaiting, settled, sample, in_window, after_article, portion_taken, lot_taken, second_taken, refuses_sound, refuses, takes, step}
 use Rattle.runs.specs.Runs.{Run, go, run, fresh, is_entry, call_for, showing, unsound_at, held_to, replayed_by, replay_one, replay_on, replay, ServedBy, Served, Each}
 use Rattle.runs.specs.Setting.{Shows, all_refused}
 use Rattle.runs.proofs.Small.{passes, is_some}
-use Rattle.runs.proofs.Keeping.{ev, same_standing}
+use Rattle.runs.proofs.Slips.{moved_waits, moved_in, slip_waits, with_again, with_there, lot_unmoved, relief_unmoved, notice_unmoved}
+use Rattle.runs.proofs.Keeping.{ev}
 use Rattle.runs.proofs.Replay.{quiet_cond, stands_on_its_book, same_entry_exactly}
 use Rattle.runs.proofs.Stated.{SoundExactly, SetOnARun, FirstUnsound, UnsoundRefuses, Setting}
 
@@ -47,10 +47,6 @@ shown_back t u b e = by (leb (count_of Total t) (9 * u)) refl
     by : (q : Bool) → leb (count_of Total t) (9 * u) ≡ q → (count_of Total t ≤ 9 * u) × (showing t u b ≡ Ok t)
     by true q = (leb-true (count_of Total t) (9 * u) q, ap (λ (q : Bool). (let x : Result Tally Refusal = cond q (Ok t) (Err (SheetLineNotOfForm 1)) in x)) q)
     by false q = absurd (some_not_none (SheetLineNotOfForm 1) (sym (ap (λ (q : Bool). (let x : Result Tally Refusal = cond q (Ok t) (Err (SheetLineNotOfForm 1)) in fault x)) q) ∙ e))
-
-due_there : (k : ℕ) (w : Option WaitingLot) → is_due k w ≡ true → option_is_some w ≡ true
-due_there k None e = e
-due_there k (Some l) e = refl
 
 module _ {C : Type 0} (r : Rules C) where
   -- what a replayed entry that leaves the line sound says
@@ -115,7 +111,7 @@ module _ {C : Type 0} (r : Rules C) where
       let t = scored (score u b) in
       let x = r.judged st.status z t st.carried in
       let a : Article = record { rejected = is_rejected x.0; units = u; tally = t } in
-      cond_unsound (is_awaited x.0) (awaiting (length es + 1) z x.1 st) (after_article r st es a st.period None st.slip_out x.1) st.unsound refl refl
+      cond_unsound (is_awaited x.0) (awaiting (length es + 1) z x.1 st) (after_article r st es a st.period None x.1) st.unsound refl refl
   takes_sound score (enter_second k b) st es = refl
   takes_sound score (hand_in k) st es = refl
   takes_sound score reissue st es = refl
@@ -187,18 +183,22 @@ module _ {C : Type 0} (r : Rules C) where
     refuses_back sc c st es n sd e = sym (ap (λ o. (let y : Option Refusal = elim o [ Some k ↦ Some (BookUnsound k) | None ↦ refuses_sound r sc c st es n ] in y)) sd) ∙ e
 
     -- a slip that is out, if any, is handed in
-    handed : (k : ℕ) (st : Standing C) (es : List Entry) (n : ℕ) → Served r (hand_in k) → st.unsound ≡ None → (b : Bool) → st.slip_out ≡ b → (b ≡ true → is_due k st.waiting ≡ true) → Reaches st es n (with_slip false st) es n
+    handed : (k : ℕ) (st : Standing C) (es : List Entry) (n : ℕ) → Served r (hand_in k) → st.unsound ≡ None → (b : Bool) → is_out st.waiting ≡ b → (b ≡ true → has_slip k st.waiting ≡ true) → Reaches st es n (with_slip false st) es n
     handed k st es n sv sd true q d =
-        reach_one (hand_in k) st es n sv (refuses_from score (hand_in k) st es n sd (ap₂ (λ a c. first ((not (cond a c false), NoLotAwaits) ∷ []) None) q (d refl)))
+        reach_one (hand_in k) st es n sv (refuses_from score (hand_in k) st es n sd (ap (λ a. first ((not a, NoLotAwaits) ∷ []) None) (d refl)))
     handed k st es n sv sd false q d =
-        ([], tt, λ h. (same_standing _ _ refl refl refl refl q refl refl, refl, refl))
+        ([], tt, λ h. (sym (with_there false st q), refl, refl))
 
-    module _ (shows : Shows r score) (st : Standing C) (es : List Entry) (n : ℕ) (e : Entry) (sd : st.unsound ≡ None) (sl : st.slip_out ≡ false) where
+    module _ (shows : Shows r score) (st : Standing C) (es : List Entry) (n : ℕ) (e : Entry) (sd : st.unsound ≡ None) (sl : is_out st.waiting ≡ false) where
       abbrev Next : Type 0
       Next = Reaches st es (suc n) (replay_one r st es e) (es ++ e ∷ []) n
 
       roomy_here : leb (suc n) 0 ≡ false
       roomy_here = lt-leb (suc n) 0 (omega arith)
+
+      -- where no slip is out, giving it out and taking it back changes nothing
+      still : (s : Standing C) → is_out s.waiting ≡ false → s ≡ with_slip false (with_slip true s)
+      still s none = sym (with_again false true s ∙ with_there false s none)
 
       -- one call that leaves what the replayed one does
       finish : (c c' : Call) → Served r c' → Replayed st es e c → refuses_sound r score c' st es (suc n) ≡ None
@@ -213,22 +213,22 @@ module _ {C : Type 0} (r : Rules C) where
       next_open : Served r open_period → Replayed st es e open_period → Next
       next_open sv x =
           let rs = refuses_back (showing e.tally) open_period (with_slip true st) es 1 sd x.passed in
-          finish open_period open_period sv x (roomy_back (option_is_some st.period) (leb (suc n) 0) PeriodOpenAlready NoRoom None rs roomy_here) refl (same_standing _ _ refl refl refl refl sl refl refl)
+          finish open_period open_period sv x (roomy_back (option_is_some st.period) (leb (suc n) 0) PeriodOpenAlready NoRoom None rs roomy_here) refl (still (takes r score open_period st es).standing sl)
 
       next_end : Served r end_period → Replayed st es e end_period → Next
       next_end sv x =
           let rs = refuses_back (showing e.tally) end_period (with_slip true st) es 1 sd x.passed in
-          finish end_period end_period sv x (roomy_back (not (option_is_some st.period)) (leb (suc n) 0) NoPeriodOpen NoRoom None rs roomy_here) refl (same_standing _ _ refl refl refl refl sl refl refl)
+          finish end_period end_period sv x (roomy_back (not (option_is_some st.period)) (leb (suc n) 0) NoPeriodOpen NoRoom None rs roomy_here) refl (still (takes r score end_period st es).standing sl)
 
       next_relief : Served r grant_relief → Replayed st es e grant_relief → Next
       next_relief sv x =
-          let rs = refuses_back (showing e.tally) grant_relief (with_slip true st) es 1 sd x.passed in
-          finish grant_relief grant_relief sv x (roomy_back (option_is_some st.waiting) (leb (suc n) 0) LotAwaits NoRoom (first ((not (same_status st.status Normal), ReliefOffNormal) ∷ (ltb st.spell r.window, SpellTooShort) ∷ (ltb r.most_rejected (rejections (verdicts (in_window r st es))), TooManyRejected) ∷ (not (option_is_some (r.limits (units_of (in_window r st es)))), TooFewUnits) ∷ (above (in_window r st es) (r.limits (units_of (in_window r st es))), DefectsAboveLimit) ∷ []) None) rs roomy_here) refl (same_standing _ _ refl refl refl refl sl refl refl)
+          let rs = sym (relief_unmoved r (showing e.tally) true st es 1) ∙ refuses_back (showing e.tally) grant_relief (with_slip true st) es 1 sd x.passed in
+          finish grant_relief grant_relief sv x (roomy_back (option_is_some st.waiting) (leb (suc n) 0) LotAwaits NoRoom (first ((not (same_status st.status Normal), ReliefOffNormal) ∷ (ltb st.spell r.window, SpellTooShort) ∷ (ltb r.most_rejected (rejections (verdicts (in_window r st es))), TooManyRejected) ∷ (not (option_is_some (r.limits (units_of (in_window r st es)))), TooFewUnits) ∷ (above (in_window r st es) (r.limits (units_of (in_window r st es))), DefectsAboveLimit) ∷ []) None) rs roomy_here) refl (still (takes r score grant_relief st es).standing sl)
 
       next_notice : Served r report_irregular → Replayed st es e report_irregular → Next
       next_notice sv x =
-          let rs = refuses_back (showing e.tally) report_irregular (with_slip true st) es 1 sd x.passed in
-          finish report_irregular report_irregular sv x (roomy_back (option_is_some st.waiting) (leb (suc n) 0) LotAwaits NoRoom (first ((not (same_status st.status Reduced), NoticeOffReduced) ∷ []) None) rs roomy_here) refl (same_standing _ _ refl refl refl refl sl refl refl)
+          let rs = sym (notice_unmoved r (showing e.tally) true st es 1) ∙ refuses_back (showing e.tally) report_irregular (with_slip true st) es 1 sd x.passed in
+          finish report_irregular report_irregular sv x (roomy_back (option_is_some st.waiting) (leb (suc n) 0) LotAwaits NoRoom (first ((not (same_status st.status Reduced), NoticeOffReduced) ∷ []) None) rs roomy_here) refl (still (takes r score report_irregular st es).standing sl)
 
       -- the sheet of a replayed sample
       sheet_for : (z : ℕ) → not (option_is_some (sample r st z)) ≡ false → fault (showing e.tally (or_zero (sample r st z)) []) ≡ None
@@ -254,7 +254,7 @@ module _ {C : Type 0} (r : Rules C) where
           finish (enter_portion []) (enter_portion b) (sv b) x
           (sheet_back (not (option_is_some st.period)) (leb (suc n) 0) (not (option_is_some (sample r st 0))) NoPeriodOpen NoRoom LotSizeOutOfRange (fault (showing t u [])) (fault (score u b)) rs roomy_here (ap fault y.1))
           (ap (λ (k : Taken C). k.writes) A ∙ sym (ap (λ (k : Taken C). k.writes) B))
-          (ap (λ (k : Taken C). k.standing) A ∙ same_standing _ _ refl refl refl refl sl refl refl ∙ sym (ap (λ (k : Taken C). with_slip false k.standing) B))
+          (ap (λ (k : Taken C). k.standing) A ∙ still (portion_taken r u t (r.judged st.status 0 t st.carried) st es).standing sl ∙ sym (ap (λ (k : Taken C). with_slip false k.standing) B))
 
       -- a lot's first sample, and its slip handed in if it has one
       next_lot : ((b : List ℕ) → Served r (enter_lot e.lot_size b)) → ((k : ℕ) → Served r (hand_in k)) → Replayed st es e (enter_lot e.lot_size []) → Next
@@ -262,7 +262,7 @@ module _ {C : Type 0} (r : Rules C) where
           let z = e.lot_size in
           let t = e.tally in
           let u = or_zero (sample r st z) in
-          let rs = refuses_back (showing t) (enter_lot z []) (with_slip true st) es 1 sd x.passed in
+          let rs = sym (lot_unmoved r (showing t) true st es 1 z []) ∙ refuses_back (showing t) (enter_lot z []) (with_slip true st) es 1 sd x.passed in
           let p1 = passes (option_is_some st.waiting) LotAwaits (first ((not (option_is_some (sample r st z)), LotSizeOutOfRange) ∷ []) (fault (showing t u []))) rs in
           let p2 = passes (not (option_is_some (sample r st z))) LotSizeOutOfRange (fault (showing t u [])) p1.1 in
           let y = sheet_for z p2.0 p2.1 in
@@ -274,41 +274,41 @@ module _ {C : Type 0} (r : Rules C) where
           let w : (takes r score (enter_lot z b) st es).writes ≡ Some e = ap (λ (k : Taken C). k.writes) A ∙ sym (ap (λ (k : Taken C). k.writes) B) ∙ x.wrote in
           let s1 : Standing C = (lot_taken r z u t v st es).standing in
           let aw : Standing C = awaiting (length es + 1) z v.1 st in
-          let af : Standing C = after_article r st es a st.period None st.slip_out v.1 in
+          let af : Standing C = after_article r st es a st.period None v.1 in
           let rs2 = sheet_back (option_is_some st.waiting) (leb (suc n) 0) (not (option_is_some (sample r st z))) LotAwaits NoRoom LotSizeOutOfRange (fault (showing t u [])) (fault (score u b)) rs roomy_here (ap fault y.1) in
           let one : Reaches st es (suc n) s1 (es ++ e ∷ []) n = reach_as (reach_one (enter_lot z b) st es (suc n) (sv b) (refuses_from score (enter_lot z b) st es (suc n) sd rs2)) (ap (λ (k : Taken C). k.standing) A) (ap (λ o. put o es) w) (ap (λ o. left o (suc n)) w ∙ omega arith) in
-          let two : Reaches s1 (es ++ e ∷ []) n (with_slip false s1) (es ++ e ∷ []) n = handed (length es + 1) s1 (es ++ e ∷ []) n (sh (length es + 1)) (cond_unsound (is_awaited v.0) aw af None sd sd) s1.slip_out refl (lot_slip (is_awaited v.0) z a v) in
+          let two : Reaches s1 (es ++ e ∷ []) n (with_slip false s1) (es ++ e ∷ []) n = handed (length es + 1) s1 (es ++ e ∷ []) n (sh (length es + 1)) (cond_unsound (is_awaited v.0) aw af None sd sd) (is_out s1.waiting) refl (lot_slip (is_awaited v.0) z a v) in
           let same : with_slip false s1 ≡ replay_one r st es e =
-          quiet_cond r (is_awaited v.0) aw af (awaiting (length es + 1) z v.1 (with_slip true st)) (after_article r (with_slip true st) es a st.period None true v.1) refl refl
+          quiet_cond r (is_awaited v.0) aw af (awaiting (length es + 1) z v.1 (with_slip true st)) (after_article r (with_slip true st) es a st.period None v.1) refl refl
           ∙ sym (ap (λ (k : Taken C). with_slip false k.standing) B) ∙ sym x.gives in
           reach_both one (reach_as two same refl refl)
         where
           lot_slip : (q : Bool) (z : ℕ) (a : Article) (v : Rattle.inspection.specs.declared.verdict.Verdict.Verdict × C)
-              → (cond q (awaiting (length es + 1) z v.1 st) (after_article r st es a st.period None st.slip_out v.1)).slip_out ≡ true
-              → is_due (length es + 1) (cond q (awaiting (length es + 1) z v.1 st) (after_article r st es a st.period None st.slip_out v.1)).waiting ≡ true
+              → is_out (cond q (awaiting (length es + 1) z v.1 st) (after_article r st es a st.period None v.1)).waiting ≡ true
+              → has_slip (length es + 1) (cond q (awaiting (length es + 1) z v.1 st) (after_article r st es a st.period None v.1)).waiting ≡ true
           lot_slip true z a v q = eq-eqb (length es + 1) (length es + 1) refl
-          lot_slip false z a v q = sym sl ∙ q
+          lot_slip false z a v q = q
 
       -- the second sample of a lot, after its slip is given out again
       next_second : ((b : List ℕ) → Served r (enter_second (due_number st.waiting) b)) → Served r reissue → Replayed st es e (enter_second (due_number st.waiting) []) → Next
       next_second sv sr x =
           let lent = with_slip true st in
           let k = due_number st.waiting in
-          let z = due_size st.waiting in
+          let z = due_size lent.waiting in
           let t = e.tally in
           let u = or_zero (sample r st z) in
           let rs = refuses_back (showing t) (enter_second k []) lent es 1 sd x.passed in
-          let p1 = passes (not (is_due k st.waiting)) NoLotAwaits (first ((not (option_is_some (sample r st z)), LotSizeOutOfRange) ∷ []) (fault (showing t u []))) rs in
+          let p1 = passes (not (has_slip k lent.waiting)) NoLotAwaits (first ((not (option_is_some (sample r st z)), LotSizeOutOfRange) ∷ []) (fault (showing t u []))) rs in
           let p2 = passes (not (option_is_some (sample r st z))) LotSizeOutOfRange (fault (showing t u [])) p1.1 in
           let y = sheet_for z p2.0 p2.1 in
           let b = y.0 in
           let v = r.judged st.status z t st.carried in
-          let own : is_due k st.waiting ≡ true = not-false (is_due k st.waiting) p1.0 in
+          let own : has_slip k lent.waiting ≡ true = not-false (has_slip k lent.waiting) p1.0 in
           let A : takes r score (enter_second k b) lent es ≡ second_taken r z u t v (reading es).first_sample lent es = ap (λ d. second_taken r z u (scored d) (r.judged st.status z (scored d) st.carried) (reading es).first_sample lent es) y.1 in
           let B : takes r (showing t) (enter_second k []) lent es ≡ second_taken r z u t v (reading es).first_sample lent es = ap (λ d. second_taken r z u (scored d) (r.judged st.status z (scored d) st.carried) (reading es).first_sample lent es) y.2 in
           let w : (takes r score (enter_second k b) lent es).writes ≡ Some e = ap (λ (k : Taken C). k.writes) A ∙ sym (ap (λ (k : Taken C). k.writes) B) ∙ x.wrote in
-          let rs1 : refuses_sound r score reissue st es (suc n) ≡ None = ap₂ (λ q o. first ((not q, NoLotAwaits) ∷ (o, SlipIsOut) ∷ []) None) (due_there k st.waiting own) sl in
-          let rs2 = sheet_back (not (is_due k st.waiting)) (leb (suc n) 0) (not (option_is_some (sample r st z))) NoLotAwaits NoRoom LotSizeOutOfRange (fault (showing t u [])) (fault (score u b)) rs roomy_here (ap fault y.1) in
+          let rs1 : refuses_sound r score reissue st es (suc n) ≡ None = ap₂ (λ q o. first ((not q, NoLotAwaits) ∷ (o, SlipIsOut) ∷ []) None) (sym (moved_waits true st.waiting) ∙ slip_waits k lent.waiting own) sl in
+          let rs2 = sheet_back (not (has_slip k lent.waiting)) (leb (suc n) 0) (not (option_is_some (sample r st z))) NoLotAwaits NoRoom LotSizeOutOfRange (fault (showing t u [])) (fault (score u b)) rs roomy_here (ap fault y.1) in
           let one : Reaches st es (suc n) lent es (suc n) = reach_one reissue st es (suc n) sr (refuses_from score reissue st es (suc n) sd rs1) in
           let two = reach_one (enter_second k b) lent es (suc n) (sv b) (refuses_from score (enter_second k b) lent es (suc n) sd rs2) in
           reach_both one (reach_as two (ap (λ (k : Taken C). k.standing) A ∙ sym (ap (λ (k : Taken C). with_slip false k.standing) B) ∙ sym x.gives) (ap (λ o. put o es) w) (ap (λ o. left o (suc n)) w ∙ omega arith))
@@ -346,14 +346,14 @@ module _ {C : Type 0} (r : Rules C) where
 
     -- a whole book, entry by entry
     module _ (shows : Shows r score) where
-      reach_book : (later : List Entry) (st : Standing C) (es : List Entry) (n : ℕ) → st.unsound ≡ None → st.slip_out ≡ false → (replay_on r st es later).unsound ≡ None
+      reach_book : (later : List Entry) (st : Standing C) (es : List Entry) (n : ℕ) → st.unsound ≡ None → is_out st.waiting ≡ false → (replay_on r st es later).unsound ≡ None
           → Reaches st es (length later + n) (replay_on r st es later) (es ++ later) n
       reach_book [] st es n sd sl h = ([], tt, λ _. (refl, sym (append-nil es), omega arith))
       reach_book (e ∷ later) st es n sd sl h =
           let hd : (replay_one r st es e).unsound ≡ None = first_sound later (replay_one r st es e) (es ++ e ∷ []) h in
           let x = replayed st es e sd hd in
           let one : Reaches st es (suc (length later + n)) (replay_one r st es e) (es ++ e ∷ []) (length later + n) = next shows st es (length later + n) e sd sl hd in
-          let rest = reach_book later (replay_one r st es e) (es ++ e ∷ []) n hd (ap (λ (s : Standing C). s.slip_out) x.2.gives) h in
+          let rest = reach_book later (replay_one r st es e) (es ++ e ∷ []) n hd (ap (λ (s : Standing C). is_out s.waiting) x.2.gives ∙ moved_in (takes r (showing e.tally) x.0 (with_slip true st) es).standing.waiting) h in
           let m : suc (length later) + n ≡ suc (length later + n) = omega arith in
           reach_as (reach_both (subst (λ i. Reaches st es i (replay_one r st es e) (es ++ e ∷ []) (length later + n)) (sym m) one) rest) refl (append_assoc es (e ∷ []) later) refl
 

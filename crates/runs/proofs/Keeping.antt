@@ -20,11 +20,11 @@ use Rattle.runs.specs.Earned.{refused_with, Ruled, PortionEarned, FirstToBreak, 
 use Rattle.regimes.specs.Rules.{Rules}
 use Rattle.runs.specs.declared.standing.Standing.{Standing}
 use Rattle.runs.specs.declared.standing.WaitingLot.{WaitingLot}
-use Rattle.runs.specs.Lines.{counted_on, one_more, Outcome, Sample, Reading, read_by, reading, articles, last_articles, bare, told, settled, in_spell, turns, refuses, takes, step}
+use Rattle.runs.specs.Lines.{is_out, slip_moved, counted_on, one_more, Outcome, Sample, Reading, read_by, reading, articles, last_articles, bare, told, settled, in_spell, turns, refuses, takes, step}
 use Rattle.runs.specs.Runs.{go, Each}
 use Rattle.std.proofs.lemmas.Bool.{not-false, leb-false}
 use Rattle.runs.proofs.Spell.{new_spell_keeps}
-use Rattle.runs.proofs.Small.{no_portion_relief, no_portion_notice, same_refl, same_true, turned_differs, passes, not_none, ok_same, err_not_ok, room_test, room_after, reading_push, articles_fit, spell_then, ends_then, keeps_after, broken_where, unbroken_where}
+use Rattle.runs.proofs.Small.{is_some as there, no_portion_relief, no_portion_notice, same_refl, same_true, turned_differs, passes, not_none, ok_same, err_not_ok, room_test, room_after, reading_push, articles_fit, spell_then, ends_then, keeps_after, broken_where, unbroken_where}
 
 -- the event of a call, and the facts that the promise asks of it after the history h
 abbrev pub ev : Call → Result Reply Refusal → Event
@@ -79,17 +79,21 @@ earned_from f h es n a b r = record {
 }
 
 -- the waiting lot as the line has it, and as the entries have it
-abbrev pub due_of : Option Waiting → Option WaitingLot
-due_of None = None
-due_of (Some l) = Some (record { number = l.number; size = l.size })
+abbrev pub due_of : Bool → Option Waiting → Option WaitingLot
+due_of out None = None
+due_of out (Some l) = Some (record { number = l.number; size = l.size; slip_out = out })
 
 abbrev pub first_of : (Status → ℕ → Option LotRow) → Status → Option Waiting → Option Sample
 first_of row s None = None
 first_of row s (Some l) = Some (record { units = first_units (row s l.size); tally = l.first })
 
-pub due_some : (o : Option Waiting) → is_some (due_of o) ≡ is_some o
-due_some None = refl
-due_some (Some l) = refl
+pub due_some : (out : Bool) (w : Option Waiting) → is_some (due_of out w) ≡ is_some w
+due_some out None = refl
+due_some out (Some l) = refl
+
+pub due_moved : (o out : Bool) (w : Option Waiting) → slip_moved o (due_of out w) ≡ due_of o w
+due_moved o out None = refl
+due_moved o out (Some l) = refl
 
 -- no period has more portions than there are entries
 abbrev PeriodFew : Option ℕ → ℕ → Type 0
@@ -258,12 +262,49 @@ sound_refused f h c x k =
       counted = ap length pw ∙ k.counted;
     }
 
+-- where nothing waits no slip is out
+none_out : (f : Fixed) (h : List Event) → AllFair f h → waiting f h ≡ None → slip_is_out f h ≡ false
+none_out f [] a wn = refl
+none_out f (e ∷ h) a wn = by e.call e.answer a.0.refused a.0.ruled (none_out f h a.1) wn
+  where
+    nothing_there : (l : Waiting) → Some l ≡ None → ⊥
+    nothing_there l q = let z : ◌≡◌ {A = ℕ} 0 1 = cc in omega arith
+
+    by : (c : Call) (x : Result Reply Refusal) → refused_with x ≡ refusal f h c → ((y : Reply) → x ≡ Ok y → Ruled f h c y) → (waiting f h ≡ None → slip_is_out f h ≡ false)
+        → waiting f (ev c x ∷ h) ≡ None → slip_is_out f (ev c x ∷ h) ≡ false
+    by c (Err x) free ruled ih w = ih w
+    by open_period (Ok y) free ruled ih w = ih w
+    by (enter_portion b) (Ok y) free ruled ih w = ih w
+    by end_period (Ok y) free ruled ih w = ih w
+    by (enter_lot z b) (Ok y) free ruled ih w =
+        let p1 = passes _ _ _ (sym free) in
+        let p2 = passes _ _ _ p1.1 in
+        let p3 = passes _ _ _ p2.1 in
+        let row = there (f.row (status h) z) p3.0 in
+        let no_slip : y.slip ≡ None = (ruled y refl row.0 row.1).1.1 (λ v. nothing_there _ (sym (ap (λ x. waiting_after f (enter_lot z b) (record y { verdict = x }) (status h) (count h) (waiting f h)) v) ∙ w)) in
+        ap (λ o. cond (is_some o) true (slip_is_out f h)) no_slip ∙ ih (not_none (waiting f h) p1.0)
+    by (enter_second k b) (Ok y) free ruled ih w = refl
+    by (hand_in k) (Ok y) free ruled ih w = refl
+    by reissue (Ok y) free ruled ih w =
+        let p1 = passes _ _ _ (sym free) in
+        let l = there (waiting f h) p1.0 in
+        absurd (nothing_there l.0 (sym l.1 ∙ w))
+    by grant_relief (Ok y) free ruled ih w = ih w
+    by report_irregular (Ok y) free ruled ih w = ih w
+
+due_out : (f : Fixed) (h : List Event) → AllFair f h → is_out (due_of (slip_is_out f h) (waiting f h)) ≡ slip_is_out f h
+due_out f h a = by (waiting f h) (none_out f h a)
+  where
+    by : (w : Option Waiting) → (w ≡ None → slip_is_out f h ≡ false) → is_out (due_of (slip_is_out f h) w) ≡ slip_is_out f h
+    by None none = sym (none refl)
+    by (Some l) none = refl
+
 -- the standing that a history tells of, given the numbers that it carries
 abbrev pub standing_of : {C : Type 0} → Fixed → (List Event → C) → List Event → Standing C
-standing_of f carried h = record { status = status h; spell = length (spell f h); period = period f h; waiting = due_of (waiting f h); slip_out = slip_is_out f h; carried = carried h; unsound = None }
+standing_of f carried h = record { status = status h; spell = length (spell f h); period = period f h; waiting = due_of (slip_is_out f h) (waiting f h); carried = carried h; unsound = None }
 
-pub same_standing : {C : Type 0} (a b : Standing C) → a.status ≡ b.status → a.spell ≡ b.spell → a.period ≡ b.period → a.waiting ≡ b.waiting → a.slip_out ≡ b.slip_out → a.carried ≡ b.carried → a.unsound ≡ b.unsound → a ≡ b
-same_standing a b e1 e2 e3 e4 e5 e6 e7 = λ i. record { status = e1 i; spell = e2 i; period = e3 i; waiting = e4 i; slip_out = e5 i; carried = e6 i; unsound = e7 i }
+pub same_standing : {C : Type 0} (a b : Standing C) → a.status ≡ b.status → a.spell ≡ b.spell → a.period ≡ b.period → a.waiting ≡ b.waiting → a.carried ≡ b.carried → a.unsound ≡ b.unsound → a ≡ b
+same_standing a b e1 e2 e3 e4 e5 e6 = λ i. record { status = e1 i; spell = e2 i; period = e3 i; waiting = e4 i; carried = e5 i; unsound = e6 i }
 
 module _ {C : Type 0} (r : Rules C) (row : Status → ℕ → Option LotRow) (score : ℕ → List ℕ → Result Tally Refusal) (room : ℕ) where
   abbrev pub fx : Fixed
@@ -299,7 +340,7 @@ module _ {C : Type 0} (r : Rules C) (row : Status → ℕ → Option LotRow) (sc
           → Kept h c (record { answer = Err x; standing = now carried h; entries = written fx h; room = n })
       kept_refused h c x n k ex rm e = record {
         fair = fair_refused fx h c x e;
-        stands = same_standing _ _ refl (ap length (sym (spell_refused fx h c x))) refl refl refl (sym (idle h c x)) refl;
+        stands = same_standing _ _ refl (ap length (sym (spell_refused fx h c x))) refl refl (sym (idle h c x)) refl;
         book = sym (written_refused fx h c x);
         room_left = rm;
         sound = sound_refused fx h c x k;
@@ -331,7 +372,7 @@ module _ {C : Type 0} (r : Rules C) (row : Status → ℕ → Option LotRow) (sc
     pub relief_agrees : (h : List Event) (n : ℕ) → Sound fx h → n + count h ≡ room → refuses r score grant_relief (now carried h) (book_of h) n ≡ refusal fx h grant_relief
     unfolding relief_first
     relief_agrees h n k rm =
-        ap (λ q. relief_first h n q (leb n 0) (in_spell r (now carried h) (book_of h))) (due_some (waiting fx h))
+        ap (λ q. relief_first h n q (leb n 0) (in_spell r (now carried h) (book_of h))) (due_some (slip_is_out fx h) (waiting fx h))
         ∙ ap (λ m. relief_first h n (is_some (waiting fx h)) m (in_spell r (now carried h) (book_of h))) (room_test n (count h) room rm)
         ∙ ap (λ xs. relief_first h n (is_some (waiting fx h)) (leb room (count h)) xs) (spell_found h k)
 
@@ -340,7 +381,7 @@ module _ {C : Type 0} (r : Rules C) (row : Status → ℕ → Option LotRow) (sc
 
     pub notice_agrees : (h : List Event) (n : ℕ) → n + count h ≡ room → refuses r score report_irregular (now carried h) (book_of h) n ≡ refusal fx h report_irregular
     unfolding notice_first
-    notice_agrees h n rm = ap (λ q. notice_first h q (leb n 0)) (due_some (waiting fx h)) ∙ ap (λ m. notice_first h (is_some (waiting fx h)) m) (room_test n (count h) room rm)
+    notice_agrees h n rm = ap (λ q. notice_first h q (leb n 0)) (due_some (slip_is_out fx h) (waiting fx h)) ∙ ap (λ m. notice_first h (is_some (waiting fx h)) m) (room_test n (count h) room rm)
 
     pub relief_kept : (h : List Event) (n : ℕ) → Sound fx h → n + count h ≡ room
         → (same_status Reduced (status h) ≡ false → waiting fx h ≡ None → carried (ev grant_relief (Ok (told Undecided Reduced None)) ∷ h) ≡ r.starts Reduced)
@@ -356,7 +397,7 @@ module _ {C : Type 0} (r : Rules C) (row : Status → ℕ → Option LotRow) (sc
         let sd : same_status Reduced (status h) ≡ false = ap (λ t. same_status Reduced t) sn in
         record {
           fair = fair_accepted fx h grant_relief y e (refl, refl) (λ b q. absurd (no_portion_relief b q)) refl;
-          stands = same_standing _ _ refl (ap length (sym (spell_turned fx h grant_relief y sd))) refl refl refl (sym (cn sd wn)) refl;
+          stands = same_standing _ _ refl (ap length (sym (spell_turned fx h grant_relief y sd))) refl refl (sym (cn sd wn)) refl;
           book = refl;
           room_left = room_after n (count h) room rm (room_test n (count h) room rm ∙ p2.0);
           sound = sound_turned fx h grant_relief y k sd wn refl (reading_push (record { articles = []; first_sample = None }) (book_of h) (bare kind.Relief (status h) Undecided)) refl;
@@ -377,7 +418,7 @@ module _ {C : Type 0} (r : Rules C) (row : Status → ℕ → Option LotRow) (sc
         let sd : same_status Normal (status h) ≡ false = ap (λ t. same_status Normal t) sn in
         record {
           fair = fair_accepted fx h report_irregular y e (refl, refl) (λ b q. absurd (no_portion_notice b q)) refl;
-          stands = same_standing _ _ refl (ap length (sym (spell_turned fx h report_irregular y sd))) refl refl refl (sym (cn sd wn)) refl;
+          stands = same_standing _ _ refl (ap length (sym (spell_turned fx h report_irregular y sd))) refl refl (sym (cn sd wn)) refl;
           book = refl;
           room_left = room_after n (count h) room rm (room_test n (count h) room rm ∙ p2.0);
           sound = sound_turned fx h report_irregular y k sd wn refl (reading_push (record { articles = []; first_sample = None }) (book_of h) (bare kind.IrregularNotice (status h) Undecided)) refl;
@@ -387,9 +428,9 @@ module _ {C : Type 0} (r : Rules C) (row : Status → ℕ → Option LotRow) (sc
     -- the rest of a run, from a standing that is read off the history so far
     module _ (P : Call → Type 0) (each : (h : List Event) (c : Call) (n : ℕ) → P c → Sound fx h → Extra h → n + count h ≡ room → Kept h c (step r score c (now carried h) (book_of h) n)) where
       pub earned_on : (cs : List Call) (h : List Event) (st : Standing C) (es : List Entry) (n : ℕ) → Each P cs → AllFair fx h → Sound fx h → Extra h → n + count h ≡ room → st ≡ now carried h → es ≡ book_of h
-          → Earned fx (go r score cs h st es n).events (go r score cs h st es n).entries (go r score cs h st es n).room × ((go r score cs h st es n).standing.slip_out ≡ slip_is_out fx (go r score cs h st es n).events)
+          → Earned fx (go r score cs h st es n).events (go r score cs h st es n).entries (go r score cs h st es n).room × (is_out (go r score cs h st es n).standing.waiting ≡ slip_is_out fx (go r score cs h st es n).events)
       earned_on [] h st es n p a k x rm e1 e2 =
-          (earned_from fx h es n a e2 (ap (λ t. n + length t) e2 ∙ ap (λ t. n + t) k.counted ∙ rm), ap (λ (s : Standing C). s.slip_out) e1)
+          (earned_from fx h es n a e2 (ap (λ t. n + length t) e2 ∙ ap (λ t. n + t) k.counted ∙ rm), ap (λ (s : Standing C). is_out s.waiting) e1 ∙ due_out fx h a)
       earned_on (c ∷ cs) h st es n p a k x rm e1 e2 =
           let o = step r score c st es n in
           let q : Kept h c o = subst₂ (λ s t. Kept h c (step r score c s t n)) (sym e1) (sym e2) (each h c n p.0 k x rm) in

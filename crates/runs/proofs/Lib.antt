@@ -1,6 +1,7 @@
 pub mod Stated
 pub mod Spell
 pub mod Small
+pub mod Slips
 pub mod Keeping
 pub mod Replay
 pub mod Books

@@ -25,13 +25,13 @@ use Rattle.regimes.specs.Rules.{Rules}
 use Rattle.runs.specs.declared.standing.Standing.{Standing}
 use Rattle.runs.specs.declared.standing.WaitingLot.{WaitingLot}
 use Rattle.runs.specs.declared.standing.Taken.{Taken}
-use Rattle.runs.specs.Lines.{Sample, Reading, both, articles, reading, told, or_zero, due_size, is_due, slip_of, turns, lot_taken, second_taken, settled, refuses, takes, step}
+use Rattle.runs.specs.Lines.{Sample, Reading, both, articles, reading, told, or_zero, due_size, is_out, has_slip, slip_of, turns, lot_taken, second_taken, settled, refuses, takes, step}
 use Rattle.inspection.specs.Classes.{each_class, some_class}
 use Rattle.regimes.specs.Lots.{accepts_first, rejects_first, first_judged, both_judged, lot_judged, lot_units}
 use Rattle.runs.specs.Regimes.{lots_rules}
 use Rattle.runs.specs.Runs.{ForLots, fresh}
 use Rattle.runs.proofs.Small.{no_portion_lot, no_portion_second, no_portion_hand, no_portion_reissue, passes, is_some, not_none, room_test, room_after, reading_push, length_then}
-use Rattle.runs.proofs.Keeping.{due_of, due_some, first_of, fair_accepted, Sound, sound_empty, spell_few, by_article, sound_decided, spell_decided, sound_idle, sound_quiet, spell_idle, same_standing, fx, book_of, now, Kept, turns_found, kept_step, relief_agrees, notice_agrees, relief_kept, notice_kept, earned_on}
+use Rattle.runs.proofs.Keeping.{due_of, due_moved, first_of, fair_accepted, Sound, sound_empty, spell_few, by_article, sound_decided, spell_decided, sound_idle, sound_quiet, spell_idle, same_standing, fx, book_of, now, Kept, turns_found, kept_step, relief_agrees, notice_agrees, relief_kept, notice_kept, earned_on}
 use Rattle.runs.proofs.Stated.{EarnedLots}
 
 first_fair : (w : LotRow) (t : Tally) → lot_row_kept w ≡ true → FirstJudged w t (first_judged w t).0
@@ -65,12 +65,12 @@ units_second None a = refl
 units_second (Some w) a = refl
 
 -- refusals, with the waiting lot and its row taken apart
-lot_first : (f : Fixed) (w : Option Waiting) (o : Option LotRow) (m : Bool) (g : ℕ → Option Refusal)
-    → first ((option_is_some (due_of w), LotAwaits) ∷ (m, NoRoom) ∷ (not (option_is_some (lot_units o (tally_of w))), LotSizeOutOfRange) ∷ []) (g (or_zero (lot_units o (tally_of w))))
+lot_first : (f : Fixed) (out : Bool) (w : Option Waiting) (o : Option LotRow) (m : Bool) (g : ℕ → Option Refusal)
+    → first ((option_is_some (due_of out w), LotAwaits) ∷ (m, NoRoom) ∷ (not (option_is_some (lot_units o (tally_of w))), LotSizeOutOfRange) ∷ []) (g (or_zero (lot_units o (tally_of w))))
     ≡ first ((option_is_some w, LotAwaits) ∷ (m, NoRoom) ∷ (not (option_is_some o), LotSizeOutOfRange) ∷ []) (g (first_units o))
-lot_first f None None m g = refl
-lot_first f None (Some w) m g = refl
-lot_first f (Some l) o m g = refl
+lot_first f out None None m g = refl
+lot_first f out None (Some w) m g = refl
+lot_first f out (Some l) o m g = refl
 
 second_row : (o : Option LotRow) (a : Tally) (q m : Bool) (g : ℕ → Option Refusal) → option_is_some o ≡ true
     → first ((q, NoLotAwaits) ∷ (m, NoRoom) ∷ (not (option_is_some (lot_units o (Some a))), LotSizeOutOfRange) ∷ []) (g (or_zero (lot_units o (Some a))))
@@ -79,15 +79,20 @@ second_row None a q m g e = let z : ◌≡◌ {A = ℕ} 0 1 = cc in absurd (omeg
 second_row (Some w) a q m g e = refl
 
 second_first : (f : Fixed) (row : ℕ → Option LotRow) (w : Option Waiting) (out : Bool) (k : ℕ) (m : Bool) (g : ℕ → Option Refusal) (s : Status) → rowed (λ _ z. row z) s w ≡ true
-    → first ((not (cond out (is_due k (due_of w)) false), NoLotAwaits) ∷ (m, NoRoom) ∷ (not (option_is_some (lot_units (row (due_size (due_of w))) (tally_of w))), LotSizeOutOfRange) ∷ []) (g (or_zero (lot_units (row (due_size (due_of w))) (tally_of w))))
+    → first ((not (has_slip k (due_of out w)), NoLotAwaits) ∷ (m, NoRoom) ∷ (not (option_is_some (lot_units (row (due_size (due_of out w))) (tally_of w))), LotSizeOutOfRange) ∷ []) (g (or_zero (lot_units (row (due_size (due_of out w))) (tally_of w))))
     ≡ first ((not (cond out (is_number f k w) false), NoLotAwaits) ∷ (m, NoRoom) ∷ []) (g (second_units (row (waited_size f w))))
 second_first f row None true k m g s e = refl
 second_first f row None false k m g s e = refl
 second_first f row (Some l) out k m g s e = second_row (row l.size) l.first (not (cond out (eqb k l.number) false)) m g e
 
-due_number_same : (f : Fixed) (k : ℕ) (w : Option Waiting) → is_due k (due_of w) ≡ is_number f k w
-due_number_same f k None = refl
-due_number_same f k (Some l) = refl
+due_has : (f : Fixed) (out : Bool) (k : ℕ) (w : Option Waiting) → has_slip k (due_of out w) ≡ cond out (is_number f k w) false
+due_has f true k None = refl
+due_has f false k None = refl
+due_has f out k (Some l) = refl
+
+reissue_first : (out : Bool) (w : Option Waiting) → first ((not (option_is_some (due_of out w)), NoLotAwaits) ∷ (is_out (due_of out w), SlipIsOut) ∷ []) None ≡ first ((not (option_is_some w), NoLotAwaits) ∷ (out, SlipIsOut) ∷ []) None
+reissue_first out None = refl
+reissue_first out (Some l) = refl
 
 pub number_some : (f : Fixed) (out : Bool) (k : ℕ) (w : Option Waiting) → cond out (is_number f k w) false ≡ true → (l : Waiting) × (w ≡ Some l)
 number_some f true k None e = let z : ◌≡◌ {A = ℕ} 0 1 = cc in absurd (omega arith)
@@ -126,7 +131,7 @@ module _ (row : Status → ℕ → Option LotRow) (limits : ℕ → Option Limit
 
   lot_agrees : (h : List Event) (z : ℕ) (b : List ℕ) (n : ℕ) → n + count h ≡ room → refuses rl score (enter_lot z b) (st_of h) (bk_of h) n ≡ refusal fl h (enter_lot z b)
   lot_agrees h z b n rm =
-      lot_first fl (waiting fl h) (row (status h) z) (leb n 0) (λ u. fault (score u b))
+      lot_first fl (slip_is_out fl h) (waiting fl h) (row (status h) z) (leb n 0) (λ u. fault (score u b))
       ∙ ap (λ m. first ((option_is_some (waiting fl h), LotAwaits) ∷ (m, NoRoom) ∷ (not (option_is_some (row (status h) z)), LotSizeOutOfRange) ∷ []) (fault (score (first_units (row (status h) z)) b))) (room_test n (count h) room rm)
 
   second_agrees : (h : List Event) (i : ℕ) (b : List ℕ) (n : ℕ) → Extra h → n + count h ≡ room → refuses rl score (enter_second i b) (st_of h) (bk_of h) n ≡ refusal fl h (enter_second i b)
@@ -139,17 +144,17 @@ module _ (row : Status → ℕ → Option LotRow) (limits : ℕ → Option Limit
       rowed_at (Some l) e = e
 
   hand_agrees : (h : List Event) (i n : ℕ) → refuses rl score (hand_in i) (st_of h) (bk_of h) n ≡ refusal fl h (hand_in i)
-  hand_agrees h i n = ap (λ q. first ((not (cond (slip_is_out fl h) q false), NoLotAwaits) ∷ []) None) (due_number_same fl i (waiting fl h))
+  hand_agrees h i n = ap (λ q. first ((not q, NoLotAwaits) ∷ []) None) (due_has fl (slip_is_out fl h) i (waiting fl h))
 
   reissue_agrees : (h : List Event) (n : ℕ) → refuses rl score reissue (st_of h) (bk_of h) n ≡ refusal fl h reissue
-  reissue_agrees h n = ap (λ q. first ((not q, NoLotAwaits) ∷ (slip_is_out fl h, SlipIsOut) ∷ []) None) (due_some (waiting fl h))
+  reissue_agrees h n = reissue_first (slip_is_out fl h) (waiting fl h)
 
   hand_kept : (h : List Event) (i n : ℕ) → Sound fl h → Extra h → n + count h ≡ room → refusal fl h (hand_in i) ≡ None → KeptL h (hand_in i) n
   hand_kept h i n k x rm e =
       let y = told Undecided (status h) None in
       record {
         fair = fair_accepted fl h (hand_in i) y e (refl, refl) (λ b q. absurd (no_portion_hand i b q)) refl;
-        stands = same_standing _ _ refl (ap length (sym (spell_idle fl h (hand_in i) y refl refl))) refl refl refl refl refl;
+        stands = same_standing _ _ refl (ap length (sym (spell_idle fl h (hand_in i) y refl refl))) refl (due_moved false (slip_is_out fl h) (waiting fl h)) refl refl;
         book = sym (append-nil (bk_of h));
         room_left = omega arith;
         sound = sound_idle fl h (hand_in i) y k refl refl refl (ap reading (append-nil (bk_of h))) refl;
@@ -158,10 +163,10 @@ module _ (row : Status → ℕ → Option LotRow) (limits : ℕ → Option Limit
 
   reissue_kept : (h : List Event) (n : ℕ) → Sound fl h → Extra h → n + count h ≡ room → refusal fl h reissue ≡ None → KeptL h reissue n
   reissue_kept h n k x rm e =
-      let y = told Undecided (status h) (slip_of (due_of (waiting fl h))) in
+      let y = told Undecided (status h) (slip_of (due_of (slip_is_out fl h) (waiting fl h))) in
       record {
-        fair = fair_accepted fl h reissue y e (refl, (λ l q. ap (λ w. slip_of (due_of w)) q)) (λ b q. absurd (no_portion_reissue b q)) refl;
-        stands = same_standing _ _ refl (ap length (sym (spell_idle fl h reissue y refl refl))) refl refl refl refl refl;
+        fair = fair_accepted fl h reissue y e (refl, (λ l q. ap (λ w. slip_of (due_of (slip_is_out fl h) w)) q)) (λ b q. absurd (no_portion_reissue b q)) refl;
+        stands = same_standing _ _ refl (ap length (sym (spell_idle fl h reissue y refl refl))) refl (due_moved true (slip_is_out fl h) (waiting fl h)) refl refl;
         book = sym (append-nil (bk_of h));
         room_left = omega arith;
         sound = sound_idle fl h reissue y k refl refl refl (ap reading (append-nil (bk_of h))) refl;
@@ -197,7 +202,7 @@ module _ (row : Status → ℕ → Option LotRow) (limits : ℕ → Option Limit
     lot_accepted : Fairly Accepted → KeptAs h (enter_lot z b) n (lot_taken rl z u1 t1 (Accepted, None) (st_of h) (bk_of h))
     lot_accepted j = record {
       fair = fair_accepted fl h (enter_lot z b) (y1 Accepted) e (λ w q. (j w q, ((λ v. absurd (A≢W v)), (λ _. refl)))) (λ d q. absurd (no_portion_lot z b d q)) (by_article fl h (a1 Accepted) (w1 Accepted) k (found Accepted));
-      stands = same_standing _ _ refl (length_then (w1 Accepted) (spell fl h) (a1 Accepted) (spell_few fl h k rm') ∙ ap length (sym (spell_decided fl h (enter_lot z b) (y1 Accepted) (a1 Accepted) (w1 Accepted) refl refl))) refl refl refl (cond_same (w1 Accepted) None) refl;
+      stands = same_standing _ _ refl (length_then (w1 Accepted) (spell fl h) (a1 Accepted) (spell_few fl h k rm') ∙ ap length (sym (spell_decided fl h (enter_lot z b) (y1 Accepted) (a1 Accepted) (w1 Accepted) refl refl))) refl refl (cond_same (w1 Accepted) None) refl;
       book = refl;
       room_left = room_after n (count h) room rm (room_test n (count h) room rm ∙ rm');
       sound = sound_decided fl h (enter_lot z b) (y1 Accepted) (a1 Accepted) (e1 Accepted) (w1 Accepted) k (found Accepted) refl refl refl refl refl refl;
@@ -207,7 +212,7 @@ module _ (row : Status → ℕ → Option LotRow) (limits : ℕ → Option Limit
     lot_rejected : Fairly Rejected → KeptAs h (enter_lot z b) n (lot_taken rl z u1 t1 (Rejected, None) (st_of h) (bk_of h))
     lot_rejected j = record {
       fair = fair_accepted fl h (enter_lot z b) (y1 Rejected) e (λ w q. (j w q, ((λ v. absurd (R≢W v)), (λ _. refl)))) (λ d q. absurd (no_portion_lot z b d q)) (by_article fl h (a1 Rejected) (w1 Rejected) k (found Rejected));
-      stands = same_standing _ _ refl (length_then (w1 Rejected) (spell fl h) (a1 Rejected) (spell_few fl h k rm') ∙ ap length (sym (spell_decided fl h (enter_lot z b) (y1 Rejected) (a1 Rejected) (w1 Rejected) refl refl))) refl refl refl (cond_same (w1 Rejected) None) refl;
+      stands = same_standing _ _ refl (length_then (w1 Rejected) (spell fl h) (a1 Rejected) (spell_few fl h k rm') ∙ ap length (sym (spell_decided fl h (enter_lot z b) (y1 Rejected) (a1 Rejected) (w1 Rejected) refl refl))) refl refl (cond_same (w1 Rejected) None) refl;
       book = refl;
       room_left = room_after n (count h) room rm (room_test n (count h) room rm ∙ rm');
       sound = sound_decided fl h (enter_lot z b) (y1 Rejected) (a1 Rejected) (e1 Rejected) (w1 Rejected) k (found Rejected) refl refl refl refl refl refl;
@@ -221,7 +226,7 @@ module _ (row : Status → ℕ → Option LotRow) (limits : ℕ → Option Limit
         let push = reading_push (record { articles = []; first_sample = None }) (bk_of h) (e1 Awaited) in
         record {
           fair = fair_accepted fl h (enter_lot z b) y e (λ w q. (j w q, ((λ _. ap (λ m. Some (m + 1)) c), (λ v. absurd (v refl))))) (λ d q. absurd (no_portion_lot z b d q)) refl;
-          stands = same_standing _ _ refl (ap length (sym (spell_idle fl h (enter_lot z b) y refl refl))) refl (ap (λ (m : ℕ). (let d : WaitingLot = record { number = m + 1; size = z } in Some d)) c) refl refl refl;
+          stands = same_standing _ _ refl (ap length (sym (spell_idle fl h (enter_lot z b) y refl refl))) refl (ap (λ (m : ℕ). (let d : WaitingLot = record { number = m + 1; size = z; slip_out = true } in Some d)) c) refl refl;
           book = refl;
           room_left = room_after n (count h) room rm (room_test n (count h) room rm ∙ rm');
           sound = sound_quiet fl h (enter_lot z b) y k refl refl (ap (λ (x : Reading). x.articles) push) (ap (λ (x : Reading). x.first_sample) push) refl;
@@ -334,7 +339,7 @@ module _ (row : Status → ℕ → Option LotRow) (limits : ℕ → Option Limit
         let found = turns_found rl row score room carried Extra h a2 k in
         record {
           fair = fair_accepted fl h (enter_second i b) y2 e ruled2 (λ d q. absurd (no_portion_second i b d q)) (subst (λ o. ByArticle fl h (cond w2 (turned (status h)) (status h)) o) (sym decided2) (by_article fl h a2 w2 k found));
-          stands = same_standing _ _ refl (length_then w2 (spell fl h) a2 (spell_few fl h k rm') ∙ ap length (sym (spell_decided fl h (enter_second i b) y2 a2 w2 refl decided2))) refl refl refl (cond_same w2 None) refl;
+          stands = same_standing _ _ refl (length_then w2 (spell fl h) a2 (spell_few fl h k rm') ∙ ap length (sym (spell_decided fl h (enter_second i b) y2 a2 w2 refl decided2))) refl refl (cond_same w2 None) refl;
           book = ap (λ o. bk_of h ++ listed fl o) (sym entry2);
           room_left = room_after n (count h) room rm (room_test n (count h) room rm ∙ rm');
           sound = sound_decided fl h (enter_second i b) y2 a2 e2 w2 k found refl decided2 entry2 refl (ap (λ o. (both o e2 (articles (bk_of h))).articles) sampled2) (ap (λ o. (both o e2 (articles (bk_of h))).first_sample) sampled2);
@@ -343,7 +348,7 @@ module _ (row : Status → ℕ → Option LotRow) (limits : ℕ → Option Limit
 
     same2 : takes rl score (enter_second i b) (st_of h) (bk_of h) ≡ taken2
     same2 =
-        ap (λ q. second_taken rl (due_size (due_of q)) (or_zero (lot_units (row (status h) (due_size (due_of q))) (tally_of q))) (scored (score (or_zero (lot_units (row (status h) (due_size (due_of q))) (tally_of q))) b)) (lot_judged (row (status h) (due_size (due_of q))) (scored (score (or_zero (lot_units (row (status h) (due_size (due_of q))) (tally_of q))) b)) (tally_of q)) (reading (bk_of h)).first_sample (st_of h) (bk_of h)) wl
+        ap (λ q. second_taken rl (due_size (due_of (slip_is_out fl h) q)) (or_zero (lot_units (row (status h) (due_size (due_of (slip_is_out fl h) q))) (tally_of q))) (scored (score (or_zero (lot_units (row (status h) (due_size (due_of (slip_is_out fl h) q))) (tally_of q))) b)) (lot_judged (row (status h) (due_size (due_of (slip_is_out fl h) q))) (scored (score (or_zero (lot_units (row (status h) (due_size (due_of (slip_is_out fl h) q))) (tally_of q))) b)) (tally_of q)) (reading (bk_of h)).first_sample (st_of h) (bk_of h)) wl
         ∙ ap (λ m. second_taken rl l.size m (scored (score m b)) (lot_judged (row (status h) l.size) (scored (score m b)) (Some l.first)) (reading (bk_of h)).first_sample (st_of h) (bk_of h)) (units_second (row (status h) l.size) l.first)
         ∙ ap₂ (λ o y. second_taken rl l.size u2 t2 (lot_judged o t2 (Some l.first)) y (st_of h) (bk_of h)) er sampled2
 

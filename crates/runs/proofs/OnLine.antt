@@ -59,7 +59,7 @@ module _ (score : ℕ → List ℕ → Result Tally Refusal) (room : ℕ) where
       let y = told Undecided (status h) None in
       record {
         fair = fair_accepted fo h open_period y e (refl, refl) (λ b q. absurd (no_portion_open b q)) refl;
-        stands = same_standing _ _ refl (ap length (sym (spell_idle fo h open_period y refl refl))) refl refl refl (ap (λ b. values_after (status h) (cond b [] [])) (sym (same_refl (status h)))) refl;
+        stands = same_standing _ _ refl (ap length (sym (spell_idle fo h open_period y refl refl))) refl refl (ap (λ b. values_after (status h) (cond b [] [])) (sym (same_refl (status h)))) refl;
         book = refl;
         room_left = room_after n (count h) room rm (room_test n (count h) room rm ∙ p2.0);
         sound = sound_idle fo h open_period y k refl refl refl (reading_push (record { articles = []; first_sample = None }) (bk_of h) (bare kind.PeriodOpened (status h) Undecided)) refl;
@@ -73,7 +73,7 @@ module _ (score : ℕ → List ℕ → Result Tally Refusal) (room : ℕ) where
       let y = told (fullness (period fo h)) (status h) None in
       record {
         fair = fair_accepted fo h end_period y e (refl, (λ m q. ap fullness q)) (λ b q. absurd (no_portion_end b q)) refl;
-        stands = same_standing _ _ refl (ap length (sym (spell_idle fo h end_period y refl refl))) refl refl refl (ap (values_after (status h)) (sym (append-nil (stretch fo h))) ∙ ap (λ b. values_after (status h) (cond b (stretch fo h ++ []) [])) (sym (same_refl (status h)))) refl;
+        stands = same_standing _ _ refl (ap length (sym (spell_idle fo h end_period y refl refl))) refl refl (ap (values_after (status h)) (sym (append-nil (stretch fo h))) ∙ ap (λ b. values_after (status h) (cond b (stretch fo h ++ []) [])) (sym (same_refl (status h)))) refl;
         book = refl;
         room_left = room_after n (count h) room rm (room_test n (count h) room rm ∙ p2.0);
         sound = sound_idle fo h end_period y k refl refl refl (reading_push (record { articles = []; first_sample = None }) (bk_of h) (bare kind.PeriodEnded (status h) (fullness (period fo h)))) refl;
@@ -110,7 +110,7 @@ module _ (score : ℕ → List ℕ → Result Tally Refusal) (room : ℕ) where
       let en : Entry = record { kind = kind.Portion; status = s; verdict = v; lot_size = 0; units = u; tally = t } in
       record {
         fair = fair_accepted fo h (enter_portion b) y e refl (λ d q. subst (λ (l : List ℕ). PortionEarned fo h l v) (sheet_same b d q) (portion_earned h b)) (by_article fo h a w k ew);
-        stands = same_standing _ _ refl (length_then w (spell fo h) a (spell_few fo h k p2.0) ∙ ap length (sym (spell_decided fo h (enter_portion b) y a w refl refl))) (one_more_period fo h b k p2.0) refl refl (carry_then w s (stretch fo h) t) refl;
+        stands = same_standing _ _ refl (length_then w (spell fo h) a (spell_few fo h k p2.0) ∙ ap length (sym (spell_decided fo h (enter_portion b) y a w refl refl))) (one_more_period fo h b k p2.0) refl (carry_then w s (stretch fo h) t) refl;
         book = refl;
         room_left = room_after n (count h) room rm (room_test n (count h) room rm ∙ p2.0);
         sound = sound_decided fo h (enter_portion b) y a en w k ew refl refl refl refl refl (k.sampled ∙ ap (first_of no_rows s) x ∙ ap (first_of no_rows (cond w (turned s) s)) (sym x));

@@ -13,6 +13,7 @@ use Rattle.regimes.specs.Rules.{Rules}
 use Rattle.regimes.specs.Portions.{Values}
 use Rattle.runs.specs.Earned.{Earned}
 use Rattle.runs.specs.History.{Fixed, slip_is_out}
+use Rattle.runs.specs.Lines.{is_out}
 use Rattle.runs.specs.Promises.{on_line, stationary, OfEveryLine, AtEachCall, RefusedAsRuled, AnsweredAsRuled, RejectedOnOverrun, TurnedAsRuled, OfEachRun, BooksTheAccepted, TakenUp, Settled, GoesOnEarned, SetOnABook, Promised}
 use Rattle.runs.specs.Runs.{Run}
 use Rattle.runs.specs.Setting.{Shows}
@@ -42,7 +43,7 @@ row_kept p s size w e = by (leb size 9999999) (row_for s size rows) (last_kept (
 
 -- every run is earned, and its line's slip is out where the calls and answers tell so
 abbrev RunEarned : (C : Type 0) → Rules C → (ℕ → Fixed) → ℕ → Run C → Type 0
-RunEarned C r fixed room x = Earned (fixed room) x.events x.entries x.room × (x.standing.slip_out ≡ slip_is_out (fixed room) x.events)
+RunEarned C r fixed room x = Earned (fixed room) x.events x.entries x.room × (is_out x.standing.waiting ≡ slip_is_out (fixed room) x.events)
 
 runs_earned : OfEveryLine (OfEachRun RunEarned)
 runs_earned = (

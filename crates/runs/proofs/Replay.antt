@@ -15,15 +15,15 @@ use Rattle.inspection.specs.declared.class.JudgedClass.TheVariants.{Total}
 use Rattle.inspection.specs.Classes.{count_of}
 use Rattle.runs.specs.Spells.{rejections}
 use Rattle.inspection.specs.Statuses.{same_status}
-use Rattle.runs.specs.History.{Call, open_period, enter_portion, end_period, enter_lot, enter_second, hand_in, reissue, grant_relief, report_irregular, Event, Article, is_awaited, is_rejected, first, fault, scored, verdicts, units_of, above}
+use Rattle.runs.specs.History.{Call, open_period, enter_portion, end_period, enter_lot, enter_second, hand_in, reissue, grant_relief, report_irregular, Event, Article, is_awaited, is_rejected, no_defects, first, fault, scored, verdicts, units_of, above}
 use Rattle.regimes.specs.Rules.{Rules}
 use Rattle.runs.specs.declared.standing.Standing.{Standing}
-use Rattle.runs.specs.declared.standing.WaitingLot.{WaitingLot}
 use Rattle.runs.specs.declared.standing.Taken.{Taken}
-use Rattle.runs.specs.Lines.{reading, or_zero, due_size, due_number, is_due, put, with_slip, awaiting, settled, in_window, sample, after_article, portion_taken, lot_taken, second_taken, refuses_sound, refuses, takes, step}
+use Rattle.runs.specs.Lines.{reading, or_zero, due_size, due_number, has_slip, slip_moved, put, with_slip, awaiting, settled, in_window, sample, after_article, portion_taken, lot_taken, second_taken, refuses_sound, refuses, takes, step}
 use Rattle.runs.specs.Runs.{go, run, fresh, verdict_code, kind_code, same_entry, is_entry, call_for, showing, unsound_at, held_to, replayed_by, replay_one, replay_on, replay, Bounded, ServedBy, Served, Each}
 use Rattle.runs.proofs.Small.{same_refl, same_true, passes, scored_ok}
-use Rattle.runs.proofs.Keeping.{ev, same_standing}
+use Rattle.runs.proofs.Slips.{moved_number, moved_size, slip_own, with_again, with_there, lot_unmoved, relief_unmoved, notice_unmoved}
+use Rattle.runs.proofs.Keeping.{ev}
 use Rattle.runs.proofs.Stated.{StandsOnItsBook, GoesOnAlike, SameEntryExactly}
 
 -- equal entries
@@ -128,11 +128,6 @@ resheet q m p x y z o o' e e' =
 last_none : (q m p : Bool) (x y z : Refusal) (o : Option Refusal) → cond q (Some x) (cond m (Some y) (cond p (Some z) o)) ≡ None → o ≡ None
 last_none q m p x y z o e = (passes p z o (passes m y _ (passes q x _ e).1).1).1
 
-due_self : (out : Bool) (k : ℕ) (w : Option WaitingLot) → cond out (is_due k w) false ≡ true → is_due (due_number w) w ≡ true
-due_self true k None e = e
-due_self false k None e = e
-due_self out k (Some l) e = eq-eqb l.number l.number refl
-
 module _ {C : Type 0} (r : Rules C) where
   replay_push : (st : Standing C) (es later : List Entry) (e : Entry) → replay_on r st es (later ++ e ∷ []) ≡ replay_one r (replay_on r st es later) (es ++ later) e
   replay_push st es [] e = ap (λ x. replay_one r st x e) (sym (append-nil es))
@@ -152,17 +147,22 @@ module _ {C : Type 0} (r : Rules C) where
     abbrev lent : Standing C
     lent = with_slip true st
 
+    abbrev bad : Standing C
+    bad = unsound_at (length es + 1) (with_slip false st)
+
     -- one entry that the call c writes, replayed
     replays : call_for r.portions e.kind e.lot_size (due_number st.waiting) ≡ Some c
         → refuses_sound r (showing e.tally) c lent es 1 ≡ None
         → (takes r (showing e.tally) c lent es).writes ≡ Some e
         → replay_one r (with_slip false st) es e ≡ with_slip false (takes r (showing e.tally) c lent es).standing
     replays ec er ew =
-        ap (λ o. (let y : Standing C = elim o [ Some n ↦ with_slip false st | None ↦ replayed_by r (call_for r.portions e.kind e.lot_size (due_number st.waiting)) e (with_slip false st) es ] in y)) sd
+        ap (λ o. (let y : Standing C = elim o [ Some n ↦ with_slip false st | None ↦ replayed_by r (call_for r.portions e.kind e.lot_size (due_number (slip_moved false st.waiting))) e (with_slip false st) es ] in y)) sd
+        ∙ ap (λ i. replayed_by r (call_for r.portions e.kind e.lot_size i) e (with_slip false st) es) (moved_number false st.waiting)
         ∙ ap (λ o. replayed_by r o e (with_slip false st) es) ec
-        ∙ ap (λ o. held_to e o (takes r (showing e.tally) c lent es) (unsound_at (length es + 1) st)) (ap (λ o. (let y : Option Refusal = elim o [ Some k ↦ Some (BookUnsound k) | None ↦ refuses_sound r (showing e.tally) c lent es 1 ] in y)) sd ∙ er)
-        ∙ ap (λ o. cond (is_entry e o) (with_slip false (takes r (showing e.tally) c lent es).standing) (unsound_at (length es + 1) st)) ew
-        ∙ ap (λ q. cond q (with_slip false (takes r (showing e.tally) c lent es).standing) (unsound_at (length es + 1) st)) (entry_refl e)
+        ∙ ap (λ s. held_to e (refuses r (showing e.tally) c s es 1) (takes r (showing e.tally) c s es) bad) (with_again true false st)
+        ∙ ap (λ o. held_to e o (takes r (showing e.tally) c lent es) bad) (ap (λ o. (let y : Option Refusal = elim o [ Some k ↦ Some (BookUnsound k) | None ↦ refuses_sound r (showing e.tally) c lent es 1 ] in y)) sd ∙ er)
+        ∙ ap (λ o. cond (is_entry e o) (with_slip false (takes r (showing e.tally) c lent es).standing) bad) ew
+        ∙ ap (λ q. cond q (with_slip false (takes r (showing e.tally) c lent es).standing) bad) (entry_refl e)
 
   pub quiet_cond : (q : Bool) (a b a' b' : Standing C) → with_slip false a ≡ with_slip false a' → with_slip false b ≡ with_slip false b' → with_slip false (cond q a b) ≡ with_slip false (cond q a' b')
   quiet_cond true a b a' b' x y = x
@@ -202,6 +202,7 @@ module _ {C : Type 0} (r : Rules C) where
           pushed e
           ∙ replays st es e (enter_portion []) sd (on_line_only r.portions (enter_portion b) (enter_portion []) kind.Portion 0 (due_number st.waiting) sv (λ x. x) refl) (resheet (not (is_some st.period)) (leb n 0) (not (is_some (sample r st 0))) NoPeriodOpen NoRoom LotSizeOutOfRange (fault (score u b)) (fault (showing t u [])) er (ap fault sh)) (ap (λ (k : Taken C). k.writes) eq)
           ∙ ap (λ (k : Taken C). with_slip false k.standing) eq
+          ∙ with_again false true (takes r score (enter_portion b) st es).standing
 
       same_lot : (z : ℕ) (b : List ℕ) → Same (enter_lot z b)
       same_lot z b sv er =
@@ -213,9 +214,9 @@ module _ {C : Type 0} (r : Rules C) where
           let a : Article = record { rejected = is_rejected x.0; units = u; tally = t } in
           let eq : takes r (showing t) (enter_lot z []) (with_slip true st) es ≡ lot_taken r z u t x (with_slip true st) es = ap (λ d. lot_taken r z u (scored d) (r.judged st.status z (scored d) st.carried) (with_slip true st) es) sh in
           pushed e
-          ∙ replays st es e (enter_lot z []) sd (lots_only r.portions (enter_lot z b) (enter_lot z []) kind.Lot z (due_number st.waiting) sv (λ x. x) refl) (resheet (is_some st.waiting) (leb n 0) (not (is_some (sample r st z))) LotAwaits NoRoom LotSizeOutOfRange (fault (score u b)) (fault (showing t u [])) er (ap fault sh)) (ap (λ (k : Taken C). k.writes) eq)
+          ∙ replays st es e (enter_lot z []) sd (lots_only r.portions (enter_lot z b) (enter_lot z []) kind.Lot z (due_number st.waiting) sv (λ x. x) refl) (lot_unmoved r (showing t) true st es 1 z [] ∙ resheet (is_some st.waiting) (leb n 0) (not (is_some (sample r st z))) LotAwaits NoRoom LotSizeOutOfRange (fault (score u b)) (fault (showing t u [])) er (ap fault sh)) (ap (λ (k : Taken C). k.writes) eq)
           ∙ ap (λ (k : Taken C). with_slip false k.standing) eq
-          ∙ quiet_cond (is_awaited x.0) (awaiting (length es + 1) z x.1 (with_slip true st)) (after_article r (with_slip true st) es a st.period None true x.1) (awaiting (length es + 1) z x.1 st) (after_article r st es a st.period None st.slip_out x.1) refl refl
+          ∙ quiet_cond (is_awaited x.0) (awaiting (length es + 1) z x.1 (with_slip true st)) (after_article r (with_slip true st) es a st.period None x.1) (awaiting (length es + 1) z x.1 st) (after_article r st es a st.period None x.1) refl refl
 
       same_second : (i : ℕ) (b : List ℕ) → Same (enter_second i b)
       same_second i b sv er =
@@ -223,24 +224,26 @@ module _ {C : Type 0} (r : Rules C) where
           let u = or_zero (sample r st z) in
           let t = scored (score u b) in
           let x = r.judged st.status z t st.carried in
-          let sh = again u b (last_none (not (cond st.slip_out (is_due i st.waiting) false)) (leb n 0) (not (is_some (sample r st z))) NoLotAwaits NoRoom LotSizeOutOfRange (fault (score u b)) er) in
+          let sh = again u b (last_none (not (has_slip i st.waiting)) (leb n 0) (not (is_some (sample r st z))) NoLotAwaits NoRoom LotSizeOutOfRange (fault (score u b)) er) in
           let e : Entry = record { kind = kind.SecondSample; status = st.status; verdict = x.0; lot_size = z; units = u; tally = t } in
-          let eq : takes r (showing t) (enter_second (due_number st.waiting) []) (with_slip true st) es ≡ second_taken r z u t x (reading es).first_sample (with_slip true st) es = ap (λ d. second_taken r z u (scored d) (r.judged st.status z (scored d) st.carried) (reading es).first_sample (with_slip true st) es) sh in
-          let own = due_self st.slip_out i st.waiting (not-false (cond st.slip_out (is_due i st.waiting) false) (passes (not (cond st.slip_out (is_due i st.waiting) false)) NoLotAwaits (first ((leb n 0, NoRoom) ∷ (not (is_some (sample r st z)), LotSizeOutOfRange) ∷ []) (fault (score u b))) er).0) in
+          let eq : takes r (showing t) (enter_second (due_number st.waiting) []) (with_slip true st) es ≡ second_taken r z u t x (reading es).first_sample (with_slip true st) es =
+          ap (λ m. second_taken r m (or_zero (sample r st m)) (scored (showing t (or_zero (sample r st m)) [])) (r.judged st.status m (scored (showing t (or_zero (sample r st m)) [])) st.carried) (reading es).first_sample (with_slip true st) es) (moved_size true st.waiting)
+          ∙ ap (λ d. second_taken r z u (scored d) (r.judged st.status z (scored d) st.carried) (reading es).first_sample (with_slip true st) es) sh in
+          let own = slip_own i st.waiting (not-false (has_slip i st.waiting) (passes (not (has_slip i st.waiting)) NoLotAwaits (first ((leb n 0, NoRoom) ∷ (not (is_some (sample r st z)), LotSizeOutOfRange) ∷ []) (fault (score u b))) er).0) in
           pushed e
-          ∙ replays st es e (enter_second (due_number st.waiting) []) sd (lots_only r.portions (enter_second i b) (enter_second (due_number st.waiting) []) kind.SecondSample z (due_number st.waiting) sv (λ x. x) refl) (reslip (not (cond st.slip_out (is_due i st.waiting) false)) (not (is_due (due_number st.waiting) st.waiting)) (leb n 0) (not (is_some (sample r st z))) NoLotAwaits NoRoom LotSizeOutOfRange (fault (score u b)) (fault (showing t u [])) er (not_from_true (is_due (due_number st.waiting) st.waiting) own) (ap fault sh)) (ap (λ (k : Taken C). k.writes) eq)
+          ∙ replays st es e (enter_second (due_number st.waiting) []) sd (lots_only r.portions (enter_second i b) (enter_second (due_number st.waiting) []) kind.SecondSample z (due_number st.waiting) sv (λ x. x) refl) (ap (λ m. first ((not (has_slip (due_number st.waiting) (slip_moved true st.waiting)), NoLotAwaits) ∷ (not (is_some (sample r st m)), LotSizeOutOfRange) ∷ []) (fault (showing t (or_zero (sample r st m)) []))) (moved_size true st.waiting) ∙ reslip (not (has_slip i st.waiting)) (not (has_slip (due_number st.waiting) (slip_moved true st.waiting))) (leb n 0) (not (is_some (sample r st z))) NoLotAwaits NoRoom LotSizeOutOfRange (fault (score u b)) (fault (showing t u [])) er (not_from_true (has_slip (due_number st.waiting) (slip_moved true st.waiting)) own) (ap fault sh)) (ap (λ (k : Taken C). k.writes) eq)
           ∙ ap (λ (k : Taken C). with_slip false k.standing) eq
 
       same : (c : Call) → Same c
-      same open_period sv er = pushed _ ∙ replays st es _ open_period sd (on_line_only r.portions open_period open_period kind.PeriodOpened 0 (due_number st.waiting) sv (λ x. x) refl) (roomy (is_some st.period) (leb n 0) PeriodOpenAlready NoRoom None er) refl
+      same open_period sv er = pushed _ ∙ replays st es _ open_period sd (on_line_only r.portions open_period open_period kind.PeriodOpened 0 (due_number st.waiting) sv (λ x. x) refl) (roomy (is_some st.period) (leb n 0) PeriodOpenAlready NoRoom None er) refl ∙ with_again false true (takes r score open_period st es).standing
       same (enter_portion b) sv er = same_portion b sv er
-      same end_period sv er = pushed _ ∙ replays st es _ end_period sd (on_line_only r.portions end_period end_period kind.PeriodEnded 0 (due_number st.waiting) sv (λ x. x) refl) (roomy (not (is_some st.period)) (leb n 0) NoPeriodOpen NoRoom None er) refl
+      same end_period sv er = pushed _ ∙ replays st es _ end_period sd (on_line_only r.portions end_period end_period kind.PeriodEnded 0 (due_number st.waiting) sv (λ x. x) refl) (roomy (not (is_some st.period)) (leb n 0) NoPeriodOpen NoRoom None er) refl ∙ with_again false true (takes r score end_period st es).standing
       same (enter_lot z b) sv er = same_lot z b sv er
       same (enter_second i b) sv er = same_second i b sv er
-      same (hand_in i) sv er = at
-      same reissue sv er = at
-      same grant_relief sv er = pushed _ ∙ replays st es _ grant_relief sd (either_line r.portions grant_relief kind.Relief 0 (due_number st.waiting) refl refl) (roomy (is_some st.waiting) (leb n 0) LotAwaits NoRoom (first ((not (same_status st.status Normal), ReliefOffNormal) ∷ (ltb st.spell r.window, SpellTooShort) ∷ (ltb r.most_rejected (rejections (verdicts (in_window r st es))), TooManyRejected) ∷ (not (is_some (r.limits (units_of (in_window r st es)))), TooFewUnits) ∷ (above (in_window r st es) (r.limits (units_of (in_window r st es))), DefectsAboveLimit) ∷ []) None) er) refl
-      same report_irregular sv er = pushed _ ∙ replays st es _ report_irregular sd (either_line r.portions report_irregular kind.IrregularNotice 0 (due_number st.waiting) refl refl) (roomy (is_some st.waiting) (leb n 0) LotAwaits NoRoom (first ((not (same_status st.status Reduced), NoticeOffReduced) ∷ []) None) er) refl
+      same (hand_in i) sv er = at ∙ sym (with_again false false st)
+      same reissue sv er = at ∙ sym (with_again false true st)
+      same grant_relief sv er = pushed _ ∙ replays st es _ grant_relief sd (either_line r.portions grant_relief kind.Relief 0 (due_number st.waiting) refl refl) (relief_unmoved r (showing no_defects) true st es 1 ∙ roomy (is_some st.waiting) (leb n 0) LotAwaits NoRoom (first ((not (same_status st.status Normal), ReliefOffNormal) ∷ (ltb st.spell r.window, SpellTooShort) ∷ (ltb r.most_rejected (rejections (verdicts (in_window r st es))), TooManyRejected) ∷ (not (is_some (r.limits (units_of (in_window r st es)))), TooFewUnits) ∷ (above (in_window r st es) (r.limits (units_of (in_window r st es))), DefectsAboveLimit) ∷ []) None) er) refl ∙ with_again false true (takes r score grant_relief st es).standing
+      same report_irregular sv er = pushed _ ∙ replays st es _ report_irregular sd (either_line r.portions report_irregular kind.IrregularNotice 0 (due_number st.waiting) refl refl) (notice_unmoved r (showing no_defects) true st es 1 ∙ roomy (is_some st.waiting) (leb n 0) LotAwaits NoRoom (first ((not (same_status st.status Reduced), NoticeOffReduced) ∷ []) None) er) refl ∙ with_again false true (takes r score report_irregular st es).standing
 
     one_step : (c : Call) (st : Standing C) (es : List Entry) (n : ℕ) → Served r c → replay r es ≡ with_slip false st
         → replay r (step r score c st es n).entries ≡ with_slip false (step r score c st es n).standing
@@ -263,5 +266,5 @@ module _ {C : Type 0} (r : Rules C) where
   pub goes_on_alike : GoesOnAlike r
   goes_on_alike score bounded room calls more sv none =
       let x = run r score calls room in
-      let e : x.standing ≡ replay r x.entries = same_standing _ _ refl refl refl refl none refl refl ∙ sym (stands_on_its_book score bounded room calls sv) in
+      let e : x.standing ≡ replay r x.entries = sym (with_there false x.standing none) ∙ sym (stands_on_its_book score bounded room calls sv) in
       ap (λ s. go r score more [] s x.entries x.room) e

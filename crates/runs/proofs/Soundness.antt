@@ -1,5 +1,5 @@
 -- A run's book grows entry by entry, each written by a call on the line as the entries before leave it; and such a call goes on a run.
-use Rattle.std.proofs.Common.{◌≡◌, ℕ, ◌+◌, ◌<◌, ◌≤◌, Bool, true, false, cond, not, ltb, List, [], ◌∷◌, ◌++◌, length, take, drop, is_some, Some, None, Option, Result, sym, refl, ap, ◌∙◌, ap₂, arith}
+use Rattle.std.proofs.Common.{◌≡◌, ℕ, ◌+◌, ◌<◌, ◌≤◌, Bool, true, false, not, ltb, List, [], ◌∷◌, ◌++◌, length, take, drop, Some, None, Option, Result, sym, refl, ap, ◌∙◌, ap₂, arith}
 use Rattle.std.proofs.lemmas.List.{append-nil, append_assoc, length-append, take_at, drop_at}
 use Rattle.std.proofs.lemmas.Bool.{ltb-true, ltb-false, not-false}
 use Rattle.inspection.specs.declared.refusal.Refusal.{Refusal}
@@ -9,15 +9,15 @@ use Rattle.entries.specs.declared.entry.Entry.{Entry}
 use Rattle.regimes.specs.Portions.{on_line_rules}
 use Rattle.regimes.specs.Rules.{Rules}
 use Rattle.runs.specs.declared.standing.Standing.{Standing}
-use Rattle.runs.specs.declared.standing.WaitingLot.{WaitingLot}
 use Rattle.runs.specs.History.{Call, open_period, enter_portion, end_period, enter_lot, enter_second, hand_in, reissue, grant_relief, report_irregular, Event, first}
-use Rattle.runs.specs.Lines.{is_due, put, with_slip, settled, refuses_sound, refuses, takes, step}
+use Rattle.runs.specs.Lines.{is_out, has_slip, slip_moved, put, with_slip, settled, refuses_sound, refuses, takes, step}
 use Rattle.runs.specs.Runs.{Run, go, run, fresh, replay, ServedBy, Served, Each, Bounded}
 use Rattle.runs.specs.Setting.{Shows}
 use Rattle.runs.specs.Soundness.{CouldWrite, EachCouldBeWritten, FirstThatCouldNot, SoundWhereWritten, SoundByEntries, SoundBySheets}
 use Rattle.runs.specs.Writing.{sheet_score, plan_rules}
 use Rattle.runs.proofs.Small.{passes}
-use Rattle.runs.proofs.Keeping.{ev, same_standing}
+use Rattle.runs.proofs.Slips.{moved_waits, slip_waits, slip_given, with_again, with_there, lot_unmoved, relief_unmoved, notice_unmoved}
+use Rattle.runs.proofs.Keeping.{ev}
 use Rattle.runs.proofs.Replay.{stands_on_its_book}
 use Rattle.runs.proofs.Books.{go_on, each_on, set_on_a_run, sound_exactly, first_unsound}
 use Rattle.runs.proofs.Writing.{scores_bounded, sheets_show}
@@ -46,14 +46,6 @@ part_within (x ∷ a) [] w z e lt q = absurd (omega arith)
 part_within (x ∷ a) (y ∷ b) w z e lt q =
     let p = part_within a b w z e (omega arith) (same_tail x y (a ++ e ∷ z) (b ++ w) q) in
     (p.0, ap₂ {C = List Entry} (λ v l. v ∷ l) (sym (same_head x y (a ++ e ∷ z) (b ++ w) q)) p.1)
-
-due_waits : (k : ℕ) (w : Option WaitingLot) → is_due k w ≡ true → is_some w ≡ true
-due_waits k None e = e
-due_waits k (Some l) e = refl
-
-due_out : (o : Bool) (k : ℕ) (w : Option WaitingLot) → cond o (is_due k w) false ≡ true → (o ≡ true) × (is_due k w ≡ true)
-due_out true k w e = (refl, e)
-due_out false k w e = (e, (let z : ◌≡◌ {A = ℕ} 0 1 = cc in absurd (omega arith)))
 
 module _ {C : Type 0} (r : Rules C) (score : ℕ → List ℕ → Result Tally Refusal) where
   -- a book only grows
@@ -103,10 +95,11 @@ module _ {C : Type 0} (r : Rules C) (score : ℕ → List ℕ → Result Tally R
     written_here ps c svs sv er ew at =
         let v = run r score ps room in
         let stands : replay r es ≡ with_slip false v.standing = sym (ap (replay r) at) ∙ stands_on_its_book r score bounded room ps svs in
-        let same : with_slip v.standing.slip_out (replay r es) ≡ v.standing = ap (with_slip v.standing.slip_out) stands in
+        let out = is_out v.standing.waiting in
+        let same : with_slip out (replay r es) ≡ v.standing = ap (with_slip out) stands ∙ with_again out false v.standing ∙ with_there out v.standing refl in
         record {
           call = c;
-          slip_out = v.standing.slip_out;
+          slip_out = out;
           room = v.room;
           served = sv;
           accepted = ap₂ (λ s l. refuses r score c s l v.room) same (sym at) ∙ er;
@@ -176,21 +169,21 @@ module _ {C : Type 0} (r : Rules C) (score : ℕ → List ℕ → Result Tally R
     reissue_too false k b sv = tt
 
     -- a second sample, its slip given out again where it is not out
-    by_second : (k : ℕ) (b : List ℕ) (now out : Bool) → st.slip_out ≡ now → Served r (enter_second k b)
+    by_second : (k : ℕ) (b : List ℕ) (now out : Bool) → is_out st.waiting ≡ now → Served r (enter_second k b)
         → refuses r score (enter_second k b) (with_slip out st) es n ≡ None → (takes r score (enter_second k b) (with_slip out st) es).writes ≡ Some e → WrittenBy st es n e
     by_second k b true out s sv er ew =
         let p = sound_refuses (enter_second k b) (with_slip out st) es n er in
-        let d = due_out out k st.waiting (not-false _ (passes _ NoLotAwaits _ p.1).0) in
-        let same : with_slip out st ≡ st = same_standing _ _ refl refl refl refl (d.0 ∙ sym s) refl refl in
+        let given = slip_given out k st.waiting (not-false _ (passes _ NoLotAwaits _ p.1).0) in
+        let same : with_slip out st ≡ st = with_there out st (s ∙ sym given) in
         by_one (enter_second k b) sv (ap (λ t. refuses r score (enter_second k b) t es n) (sym same) ∙ er) (ap (λ t. (takes r score (enter_second k b) t es).writes) (sym same) ∙ ew)
     by_second k b false out s sv er ew =
         let p = sound_refuses (enter_second k b) (with_slip out st) es n er in
-        let d = due_out out k st.waiting (not-false _ (passes _ NoLotAwaits _ p.1).0) in
+        let has = not-false (has_slip k (slip_moved out st.waiting)) (passes _ NoLotAwaits _ p.1).0 in
         let lent = with_slip true st in
-        let same : with_slip out st ≡ lent = ap (λ o. with_slip o st) d.0 in
+        let same : with_slip out st ≡ lent = ap (λ o. with_slip o st) (slip_given out k st.waiting has) in
         let er1 : refuses r score reissue st es n ≡ None =
         ap (λ o. (let y : Option Refusal = elim o [ Some k ↦ Some (BookUnsound k) | None ↦ refuses_sound r score reissue st es n ] in y)) p.0
-        ∙ ap₂ (λ q o. first ((not q, NoLotAwaits) ∷ (o, SlipIsOut) ∷ []) None) (due_waits k st.waiting d.1) s in
+        ∙ ap₂ (λ q o. first ((not q, NoLotAwaits) ∷ (o, SlipIsOut) ∷ []) None) (sym (moved_waits out st.waiting) ∙ slip_waits k (slip_moved out st.waiting) has) s in
         let er2 : refuses r score (enter_second k b) lent es n ≡ None = ap (λ t. refuses r score (enter_second k b) t es n) (sym same) ∙ er in
         let ew2 : (takes r score (enter_second k b) lent es).writes ≡ Some e = ap (λ t. (takes r score (enter_second k b) t es).writes) (sym same) ∙ ew in (
           reissue ∷ enter_second k b ∷ [],
@@ -201,17 +194,20 @@ module _ {C : Type 0} (r : Rules C) (score : ℕ → List ℕ → Result Tally R
               ∙ ap (λ w. put w es) ew2,
         )
 
+    unmoved : (c : Call) (out : Bool) → refuses_sound r score c (with_slip out st) es n ≡ refuses_sound r score c st es n → refuses r score c (with_slip out st) es n ≡ None → refuses r score c st es n ≡ None
+    unmoved c out same er = ap (λ o. (let y : Option Refusal = elim st.unsound [ Some k ↦ Some (BookUnsound k) | None ↦ o ] in y)) (sym same) ∙ er
+
     -- the other calls do not look at the slip, or write nothing
     by_any : (c : Call) (out : Bool) → Served r c → refuses r score c (with_slip out st) es n ≡ None → (takes r score c (with_slip out st) es).writes ≡ Some e → WrittenBy st es n e
     by_any open_period out sv er ew = by_one open_period sv er ew
     by_any (enter_portion b) out sv er ew = by_one (enter_portion b) sv er ew
     by_any end_period out sv er ew = by_one end_period sv er ew
-    by_any (enter_lot z b) out sv er ew = by_one (enter_lot z b) sv er ew
-    by_any (enter_second k b) out sv er ew = by_second k b st.slip_out out refl sv er ew
+    by_any (enter_lot z b) out sv er ew = by_one (enter_lot z b) sv (unmoved (enter_lot z b) out (lot_unmoved r score out st es n z b) er) ew
+    by_any (enter_second k b) out sv er ew = by_second k b (is_out st.waiting) out refl sv er ew
     by_any (hand_in k) out sv er ew = some_not_none e (sym ew)
     by_any reissue out sv er ew = some_not_none e (sym ew)
-    by_any grant_relief out sv er ew = by_one grant_relief sv er ew
-    by_any report_irregular out sv er ew = by_one report_irregular sv er ew
+    by_any grant_relief out sv er ew = by_one grant_relief sv (unmoved grant_relief out (relief_unmoved r score out st es n) er) ew
+    by_any report_irregular out sv er ew = by_one report_irregular sv (unmoved report_irregular out (notice_unmoved r score out st es n) er) ew
 
   module _ (bounded : Bounded score) (shows : Shows r score) where
     each_could : (es : List Entry) → (replay r es).unsound ≡ None → EachCouldBeWritten r score es

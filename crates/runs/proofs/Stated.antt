@@ -12,7 +12,7 @@ use Rattle.regimes.specs.Rules.{Rules}
 use Rattle.regimes.specs.Rules.{Limits}
 use Rattle.runs.specs.History.{Call, Event, Fixed, slip_is_out}
 use Rattle.runs.specs.Earned.{Earned}
-use Rattle.runs.specs.Lines.{with_slip}
+use Rattle.runs.specs.Lines.{is_out, with_slip}
 use Rattle.runs.specs.Regimes.{lots_rules, on_line_fixed, lots_fixed}
 use Rattle.runs.specs.Runs.{go, run, same_entry, replay, ForPortions, ForLots, Served, Each, Bounded}
 use Rattle.runs.specs.Setting.{Shows, all_refused}
@@ -23,7 +23,7 @@ abbrev pub EarnedOnLine : Type 0
 EarnedOnLine =
     (score : ℕ → List ℕ → Result Tally Refusal) (room : ℕ) → room ≤ 9999999 → (calls : List Call) → Each ForPortions calls
     → Earned (on_line_fixed score room) (run on_line_rules score calls room).events (run on_line_rules score calls room).entries (run on_line_rules score calls room).room
-    × ((run on_line_rules score calls room).standing.slip_out ≡ slip_is_out (on_line_fixed score room) (run on_line_rules score calls room).events)
+    × (is_out (run on_line_rules score calls room).standing.waiting ≡ slip_is_out (on_line_fixed score room) (run on_line_rules score calls room).events)
 
 -- every run of a stationary line from an empty book is earned, where each row of its plan rejects from above what it accepts
 abbrev pub EarnedLots : Type 0
@@ -31,7 +31,7 @@ EarnedLots =
     (row : Status → ℕ → Option LotRow) (limits : ℕ → Option Limits) → ((s : Status) (z : ℕ) (w : LotRow) → row s z ≡ Some w → lot_row_kept w ≡ true)
     → (score : ℕ → List ℕ → Result Tally Refusal) (room : ℕ) → room ≤ 9999999 → (calls : List Call) → Each ForLots calls
     → Earned (lots_fixed row limits score room) (run (lots_rules row limits) score calls room).events (run (lots_rules row limits) score calls room).entries (run (lots_rules row limits) score calls room).room
-    × ((run (lots_rules row limits) score calls room).standing.slip_out ≡ slip_is_out (lots_fixed row limits score room) (run (lots_rules row limits) score calls room).events)
+    × (is_out (run (lots_rules row limits) score calls room).standing.waiting ≡ slip_is_out (lots_fixed row limits score room) (run (lots_rules row limits) score calls room).events)
 
 -- a line set on the book that a run wrote stands as the run left its line, but for the slip
 abbrev pub StandsOnItsBook : {C : Type 0} → Rules C → Type 0
@@ -43,7 +43,7 @@ StandsOnItsBook r =
 abbrev pub GoesOnAlike : {C : Type 0} → Rules C → Type 0
 GoesOnAlike r =
     (score : ℕ → List ℕ → Result Tally Refusal) → Bounded score → (room : ℕ) (calls more : List Call) → Each (Served r) calls
-    → (run r score calls room).standing.slip_out ≡ false
+    → is_out (run r score calls room).standing.waiting ≡ false
     → go r score more [] (run r score calls room).standing (run r score calls room).entries (run r score calls room).room
     ≡ go r score more [] (replay r (run r score calls room).entries) (run r score calls room).entries (run r score calls room).room
 

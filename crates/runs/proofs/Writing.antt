@@ -26,7 +26,7 @@ use Rattle.regimes.specs.Portions.{portion_units, on_line_rules}
 use Rattle.regimes.specs.Rules.{Rules}
 use Rattle.runs.specs.declared.standing.Standing.{Standing}
 use Rattle.runs.specs.History.{Call, open_period, enter_portion, end_period, enter_lot, enter_second, hand_in, reissue, grant_relief, report_irregular, fault, scored}
-use Rattle.runs.specs.Lines.{or_zero, due_size, is_due, sample, refuses_sound, refuses}
+use Rattle.runs.specs.Lines.{or_zero, due_size, has_slip, sample, refuses_sound, refuses}
 use Rattle.runs.specs.Runs.{ServedBy, Bounded}
 use Rattle.runs.specs.Writing.{sheet_score, plan_rules, WritesOnlyWritable, WritesWritable, ScoresBounded, SheetsShow}
 use Rattle.runs.proofs.Small.{passes, is_some, scored_ok}
@@ -90,7 +90,7 @@ module _ {C : Type 0} (r : Rules C) (score : ℕ → List ℕ → Result Tally R
       let z = due_size st.waiting in
       let u = or_zero (sample r st z) in
       let t = scored (score u b) in
-      let p = passes_sample (not (cond st.slip_out (is_due k st.waiting) false)) (leb n 0) (not (option_is_some (sample r st z))) NoLotAwaits NoRoom LotSizeOutOfRange (fault (score u b)) (on_sound (enter_second k b) st es n er) in
+      let p = passes_sample (not (has_slip k st.waiting)) (leb n 0) (not (option_is_some (sample r st z))) NoLotAwaits NoRoom LotSizeOutOfRange (fault (score u b)) (on_sound (enter_second k b) st es n er) in
       is_writable _ e ew (fits kind.SecondSample st.status (r.judged st.status z t st.carried).0 z u t (size_low st z (for_lots r.portions (enter_second k b) (λ x. x) sv) p.0) (units_few st z p.0) (tally_few u b p.1))
   writes_only (hand_in k) st es n e sv er ew = nothing_inside e ew
   writes_only reissue st es n e sv er ew = nothing_inside e ew

@@ -86,9 +86,19 @@ abbrev pub slip_of : Option WaitingLot → Option ℕ
 slip_of None = None
 slip_of (Some l) = Some l.number
 
-abbrev pub is_due : ℕ → Option WaitingLot → Bool
-is_due k None = false
-is_due k (Some l) = k == l.number
+-- whether the waiting lot's slip is out, and whether it is out under the number k
+abbrev pub is_out : Option WaitingLot → Bool
+is_out None = false
+is_out (Some l) = l.slip_out
+
+abbrev pub has_slip : ℕ → Option WaitingLot → Bool
+has_slip k None = false
+has_slip k (Some l) = cond l.slip_out (k == l.number) false
+
+-- the waiting lot, where one waits, with its slip out or not
+abbrev pub slip_moved : Bool → Option WaitingLot → Option WaitingLot
+slip_moved o None = None
+slip_moved o (Some l) = Some (record l { slip_out = o })
 
 abbrev pub fullness : Option ℕ → Verdict
 fullness None = Brief
@@ -129,14 +139,14 @@ left (Some e) n = n - 1
 
 module _ {C : Type 0} where
   abbrev pub with_slip : Bool → Standing C → Standing C
-  with_slip o st = record st { slip_out = o }
+  with_slip o st = record st { waiting = slip_moved o st.waiting }
 
   abbrev pub in_period : Option ℕ → C → Standing C → Standing C
   in_period p c st = record st { period = p; carried = c }
 
   -- a lot's first sample is answered W: the lot waits under its entry number, and its slip is out
   abbrev pub awaiting : ℕ → ℕ → C → Standing C → Standing C
-  awaiting n z c st = record st { waiting = Some (record { number = n; size = z }); slip_out = true; carried = c }
+  awaiting n z c st = record st { waiting = Some (record { number = n; size = z; slip_out = true }); carried = c }
 
   abbrev pub settled : Option Refusal → Taken C → Standing C → List Entry → ℕ → Outcome C
   settled (Some x) k st es n = record { answer = Err x; standing = st; entries = es; room = n }
@@ -162,14 +172,13 @@ module _ {C : Type 0} (r : Rules C) where
   abbrev pub status_then : Standing C → List Entry → Article → Status
   status_then st es a = cond (turns st es a) (turned st.status) st.status
 
-  -- the standing after the article a, with the period, the waiting lot, the slip and the judge's new numbers as given
-  abbrev pub after_article : Standing C → List Entry → Article → Option ℕ → Option WaitingLot → Bool → C → Standing C
-  after_article st es a p w o c = record {
+  -- the standing after the article a, with the period, the waiting lot and the judge's new numbers as given
+  abbrev pub after_article : Standing C → List Entry → Article → Option ℕ → Option WaitingLot → C → Standing C
+  after_article st es a p w c = record {
     status = status_then st es a;
     spell = cond (turns st es a) 0 (counted_on st.spell);
     period = p;
     waiting = w;
-    slip_out = o;
     carried = cond (turns st es a) (r.starts (turned st.status)) c;
     unsound = st.unsound;
   }
@@ -184,7 +193,7 @@ module _ {C : Type 0} (r : Rules C) where
       let a : Article = record { rejected = is_rejected x.0; units = u; tally = t } in
       record {
         reply = told x.0 (status_then st es a) None;
-        standing = after_article st es a (one_more st.period) st.waiting st.slip_out x.1;
+        standing = after_article st es a (one_more st.period) st.waiting x.1;
         writes = Some (record { kind = kind.Portion; status = st.status; verdict = x.0; lot_size = 0; units = u; tally = t });
       }
 
@@ -194,7 +203,7 @@ module _ {C : Type 0} (r : Rules C) where
       let a : Article = record { rejected = is_rejected x.0; units = u; tally = t } in
       record {
         reply = cond (is_awaited x.0) (told x.0 st.status (Some (length es + 1))) (told x.0 (status_then st es a) None);
-        standing = cond (is_awaited x.0) (awaiting (length es + 1) z x.1 st) (after_article st es a st.period None st.slip_out x.1);
+        standing = cond (is_awaited x.0) (awaiting (length es + 1) z x.1 st) (after_article st es a st.period None x.1);
         writes = Some (record { kind = kind.Lot; status = st.status; verdict = x.0; lot_size = z; units = u; tally = t });
       }
 
@@ -204,7 +213,7 @@ module _ {C : Type 0} (r : Rules C) where
       let a : Article = record { rejected = is_rejected x.0; units = sample_units y + u; tally = added (sample_tally y) t } in
       record {
         reply = told x.0 (status_then st es a) None;
-        standing = after_article st es a st.period None false x.1;
+        standing = after_article st es a st.period None x.1;
         writes = Some (record { kind = kind.SecondSample; status = st.status; verdict = x.0; lot_size = z; units = u; tally = t });
       }
 
@@ -216,9 +225,9 @@ module _ {C : Type 0} (r : Rules C) where
     refuses_sound (enter_portion b) st es n = first ((not (is_some st.period), NoPeriodOpen) ∷ (nat_le n 0, NoRoom) ∷ (not (is_some (sample st 0)), LotSizeOutOfRange) ∷ []) (fault (score (or_zero (sample st 0)) b))
     refuses_sound end_period st es n = first ((not (is_some st.period), NoPeriodOpen) ∷ (nat_le n 0, NoRoom) ∷ []) None
     refuses_sound (enter_lot z b) st es n = first ((is_some st.waiting, LotAwaits) ∷ (nat_le n 0, NoRoom) ∷ (not (is_some (sample st z)), LotSizeOutOfRange) ∷ []) (fault (score (or_zero (sample st z)) b))
-    refuses_sound (enter_second k b) st es n = first ((not (cond st.slip_out (is_due k st.waiting) false), NoLotAwaits) ∷ (nat_le n 0, NoRoom) ∷ (not (is_some (sample st (due_size st.waiting))), LotSizeOutOfRange) ∷ []) (fault (score (or_zero (sample st (due_size st.waiting))) b))
-    refuses_sound (hand_in k) st es n = first ((not (cond st.slip_out (is_due k st.waiting) false), NoLotAwaits) ∷ []) None
-    refuses_sound reissue st es n = first ((not (is_some st.waiting), NoLotAwaits) ∷ (st.slip_out, SlipIsOut) ∷ []) None
+    refuses_sound (enter_second k b) st es n = first ((not (has_slip k st.waiting), NoLotAwaits) ∷ (nat_le n 0, NoRoom) ∷ (not (is_some (sample st (due_size st.waiting))), LotSizeOutOfRange) ∷ []) (fault (score (or_zero (sample st (due_size st.waiting))) b))
+    refuses_sound (hand_in k) st es n = first ((not (has_slip k st.waiting), NoLotAwaits) ∷ []) None
+    refuses_sound reissue st es n = first ((not (is_some st.waiting), NoLotAwaits) ∷ (is_out st.waiting, SlipIsOut) ∷ []) None
     refuses_sound grant_relief st es n = first ((is_some st.waiting, LotAwaits) ∷ (nat_le n 0, NoRoom) ∷ (not (same_status st.status Normal), ReliefOffNormal) ∷ (nat_lt st.spell r.window, SpellTooShort) ∷ (nat_lt r.most_rejected (rejections (verdicts (in_window st es))), TooManyRejected) ∷ (not (is_some (r.limits (units_of (in_window st es)))), TooFewUnits) ∷ (above (in_window st es) (r.limits (units_of (in_window st es))), DefectsAboveLimit) ∷ []) None
     refuses_sound report_irregular st es n = first ((is_some st.waiting, LotAwaits) ∷ (nat_le n 0, NoRoom) ∷ (not (same_status st.status Reduced), NoticeOffReduced) ∷ []) None
 

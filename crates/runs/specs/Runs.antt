@@ -20,7 +20,7 @@ use Rattle.runs.specs.Lines.{due_number, with_slip, refuses, takes, step}
 
 -- the line of an empty book
 abbrev pub fresh : {C : Type 0} → Rules C → Standing C
-fresh r = record { status = Normal; spell = 0; period = None; waiting = None; slip_out = false; carried = r.starts Normal; unsound = None }
+fresh r = record { status = Normal; spell = 0; period = None; waiting = None; carried = r.starts Normal; unsound = None }
 
 -- a run: the events that it adds to those before, the newest first, and where it leaves the line and its book
 pub record Run (C : Type 0) : Type 0 where
@@ -95,7 +95,7 @@ showing t u b = cond (nat_le (count_of Total t) (9 * u)) (Ok t) (Err (SheetLineN
 
 module _ {C : Type 0} where
   abbrev pub unsound_at : ℕ → Standing C → Standing C
-  unsound_at n st = record st { slip_out = false; unsound = Some n }
+  unsound_at n st = with_slip false (record st { unsound = Some n })
 
   -- whether the call came to the entry e, and where it left the line, with no slip out
   abbrev pub held_to : Entry → Option Refusal → Taken C → Standing C → Standing C

@@ -3,11 +3,13 @@ use entries::entry::Entry;
 use inspection::status::Status;
 use inspection::verdict::Verdict;
 
-// The lot that awaits its second sample, by the number of its entry and its size.
+// The lot that awaits its second sample.
 #[derive(Clone, Copy, PartialEq, Eq, Debug)]
 pub struct WaitingLot {
+    // The number of its entry.
     pub number: u32,
     pub size: u32,
+    pub slip_out: bool,
 }
 
 #[derive(Clone, Copy)]
@@ -18,8 +20,6 @@ pub struct Standing<C> {
     // How many portions the open period has, where one is open.
     pub period: Option<u32>,
     pub waiting: Option<WaitingLot>,
-    // Whether the waiting lot's slip is out.
-    pub slip_out: bool,
     // The judge's numbers.
     pub carried: C,
     // The number of the entry at which the book is unsound, where it is.

@@ -1,4 +1,4 @@
-use Rattle.std.proofs.Common.{◌+◌, ◌<◌, false, [], length, take, drop, None, refl, ap, ◌∙◌, arith}
+use Rattle.std.proofs.Common.{◌+◌, ◌<◌, [], length, take, drop, None, refl, ap, ◌∙◌, arith}
 use Rattle.inspection.specs.declared.status.Status.TheVariants.{Normal}
 use Rattle.runs.specs.Runs.{replay, replay_on}
 use Rattle.line.specs.declared.line.Line.{Line}
@@ -8,7 +8,7 @@ use Rattle.line.proofs.line.Line.set.Goals as goal
 
 pub loop-before-init : goal.loop-before-init
 loop-before-init g c = (
-  ap (λ k. replay_on (g.R.Regime.rules c.args.regime) (record { status = Normal; spell = 0; period = None; waiting = None; slip_out = false; carried = k; unsound = None }) [] (g.B.Book.entries c.args.book)) c.starting.ensures,
+  ap (λ k. replay_on (g.R.Regime.rules c.args.regime) (record { status = Normal; spell = 0; period = None; waiting = None; carried = k; unsound = None }) [] (g.B.Book.entries c.args.book)) c.starting.ensures,
   refl,
   refl,
 )
