@@ -28,21 +28,21 @@ with_rest rest n = option_map (λ n. (clipped n, rest)) n
 unfoldable pub number_to : ℕ → List ℕ → Taken ℕ
 number_to x bs = then (parted_by x bs) (λ digits rest. with_rest rest (number digits))
 
+-- three of something, the first two up to a tab, the last up to x
+unfoldable pub three_to : {X : Type 0} → (ℕ → List ℕ → Taken X) → ℕ → List ℕ → Taken (X × X × X)
+three_to to x bs =
+    then (to 9 bs) (λ a bs.
+    then (to 9 bs) (λ b bs.
+    then (to x bs) (λ c bs.
+    Some ((a, b, c), bs))))
+
 -- the three numbers of a class, the last of them up to x
 unfoldable pub class_to : ℕ → List ℕ → Taken ClassNumbers
-class_to x bs =
-    then (number_to 9 bs) (λ ac1 bs.
-    then (number_to 9 bs) (λ re1 bs.
-    then (number_to x bs) (λ ac2 bs.
-    Some (record { accept_first = ac1; reject_first = re1; accept_both = ac2 }, bs))))
+class_to x bs = then (three_to number_to x bs) (λ n bs. Some (record { accept_first = n.0; reject_first = n.1; accept_both = n.2 }, bs))
 
 -- one of something for each class, the last of them up to x
 unfoldable pub each_to : {X : Type 0} → (ℕ → List ℕ → Taken X) → ℕ → List ℕ → Taken (PerClass X)
-each_to to x bs =
-    then (to 9 bs) (λ c bs.
-    then (to 9 bs) (λ m bs.
-    then (to x bs) (λ t bs.
-    Some (record { critical = c; major = m; total = t }, bs))))
+each_to to x bs = then (three_to to x bs) (λ e bs. Some (record { critical = e.0; major = e.1; total = e.2 }, bs))
 
 -- nothing follows
 abbrev pub at_end : {X : Type 0} → List ℕ → X → Option X

@@ -1,7 +1,7 @@
 // A plan book from a text.
 ghost use Rattle.std.specs.Prelude.{◌≡◌, Some, None, MatchResult, OnOk};
 ghost use Rattle.texts.specs.Pieces.{shown};
-ghost use Rattle.plans.specs.Plans.{between, counts_kept, rows_of};
+ghost use Rattle.plans.specs.Plans.{between, counts_kept, each_status, rows_of};
 ghost use Rattle.plan_texts.specs.declared.reading.PlanError.TheVariants.{Refused, NoMemory};
 ghost use Rattle.plan_texts.specs.PlanTexts.{told, fault, Answers, Replaced};
 ghost use Rattle.plan_texts.specs.Putting.{Put};
@@ -17,6 +17,8 @@ use std::alloc::{AllocError, Global};
 use std::error::Error;
 use std::fmt;
 use texts::lines::{Item, Lines};
+
+const STATUSES: [Status; 3] = [Status::Normal, Status::Tightened, Status::Reduced];
 
 // Why there is no plan book.
 #[derive(Clone, Copy, Debug)]
@@ -85,14 +87,20 @@ fn rows_of_kept(lots: &[LotRow], status: Status) -> bool
     (1..=32).contains(&rows_of(lots, status))
 }
 
+// 1 to 32 rows of each status.
+fn lots_kept(lots: &[LotRow]) -> bool
+    ensures { result ≡ each_status (λ status. between 32 (rows_of status lots.now)) }
+{
+    STATUSES
+        .iter()
+        .all(|status| rows_of_kept(lots, *status))
+}
+
 // 1 to 32 lot rows for each status, and 1 to 16 limit rows.
 fn counts_kept(lots: &[LotRow], limits: &[LimitRow]) -> bool
     ensures { result ≡ counts_kept lots.now limits.now }
 {
-    rows_of_kept(lots, Status::Normal)
-        && rows_of_kept(lots, Status::Tightened)
-        && rows_of_kept(lots, Status::Reduced)
-        && (1..=16).contains(&limits.len())
+    lots_kept(lots) && (1..=16).contains(&limits.len())
 }
 
 // The rows that are read so far, and the last of them.

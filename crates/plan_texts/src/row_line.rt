@@ -1,7 +1,7 @@
 // What a line of a plan text says.
 ghost use Rattle.std.specs.Prelude.{◌≡◌, ℕ, List, Some, None, MatchOption};
 ghost use Rattle.texts.specs.Pieces.{shown};
-ghost use Rattle.plan_texts.specs.RowLines.{Taken, number_to, class_to, each_to, lot_row_in, limit_row_in, lot_in, row_of};
+ghost use Rattle.plan_texts.specs.RowLines.{Taken, number_to, three_to, class_to, each_to, lot_row_in, limit_row_in, lot_in, row_of};
 
 use crate::row::Row;
 use decimals::read_number;
@@ -31,14 +31,23 @@ impl Field for u32 {
     }
 }
 
+// Three fields of one kind, the first two up to a tab and the last up to the end.
+#[tactic(auto, unfolding(crate::specs::RowLines::three_to))]
+fn take_three<T: Field>(bytes: &[u8], end: u8) -> Option<((T, T, T), &[u8])>
+    ensures { MatchOption result (three_to T.said_to end bytes.now ≡ None) (λ p. three_to T.said_to end bytes.now ≡ Some (p.0, p.1.now)) }
+{
+    let (first, rest) = T::take(bytes, b'\t')?;
+    let (second, rest) = T::take(rest, b'\t')?;
+    let (third, rest) = T::take(rest, end)?;
+    Some(((first, second, third), rest))
+}
+
 impl Field for ClassNumbers {
     ghost said_to = { class_to };
 
     #[tactic(auto, unfolding(crate::specs::RowLines::class_to))]
     fn take(bytes: &[u8], end: u8) -> Option<(ClassNumbers, &[u8])> {
-        let (accept_first, rest) = u32::take(bytes, b'\t')?;
-        let (reject_first, rest) = u32::take(rest, b'\t')?;
-        let (accept_both, rest) = u32::take(rest, end)?;
+        let ((accept_first, reject_first, accept_both), rest) = take_three(bytes, end)?;
         let numbers = ClassNumbers {
             accept_first,
             reject_first,
@@ -53,9 +62,7 @@ impl<T: Field> Field for PerClass<T> {
 
     #[tactic(auto, unfolding(crate::specs::RowLines::each_to))]
     fn take(bytes: &[u8], end: u8) -> Option<(PerClass<T>, &[u8])> {
-        let (critical, rest) = T::take(bytes, b'\t')?;
-        let (major, rest) = T::take(rest, b'\t')?;
-        let (total, rest) = T::take(rest, end)?;
+        let ((critical, major, total), rest) = take_three(bytes, end)?;
         let each = PerClass {
             critical,
             major,

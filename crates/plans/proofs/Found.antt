@@ -1,6 +1,8 @@
 -- Rows found, and what holds of them.
-use Rattle.std.proofs.Common.{◌≡◌, ℕ, ◌+◌, ◌<◌, Bool, true, false, ◌&&◌, List, [], ◌∷◌, ◌++◌, length, get_or, take, IfSome, Some, None, Option, sym, refl, ap, ◌∙◌}
-use Rattle.std.proofs.lemmas.List.{take_more}
+use Rattle.std.proofs.Common.{◌≡◌, ℕ, ◌+◌, ◌<◌, Bool, true, false, ◌&&◌, List, [], ◌∷◌, ◌++◌, reverse, cond, length, get_or, take, IfSome, Some, None, Option, sym, refl, ap, ◌∙◌}
+use Rattle.std.specs.List.{find}
+use Rattle.std.proofs.lemmas.List.{take_more, reverse-append}
+use Rattle.std.proofs.lemmas.List.Folds.{find-append}
 use Rattle.std.proofs.lemmas.Bool.{and_parts}
 use Rattle.plans.specs.Finding.{last_of}
 use Rattle.std.specs.Bool.{then_some}
@@ -28,6 +30,16 @@ found_more p xs i d x t was here now lt is test h f e =
     let more : last_of p (take (i + 1) xs) ≡ option_or (then_some (p x) x) (last_of p (take i xs)) =
     ap (last_of p) (take_more xs i d lt) ∙ ap (λ y. last_of p (take i xs ++ y ∷ [])) (sym is) ∙ last_push p (take i xs) x in
     e ∙ (λ j. option_or (f j) (h j)) ∙ (λ j. option_or (then_some (test j) x) (last_of p (take i xs))) ∙ sym more
+
+-- the last that fits is the first from the back
+pub find_back : {X : Type 0} (p : X → Bool) (xs : List X) → find p (reverse xs) ≡ last_of p xs
+find_back p [] = refl
+find_back p (x ∷ xs) =
+    ap (find p) (reverse-append (x ∷ []) xs) ∙ find-append p (reverse xs) (x ∷ []) ∙ (λ i. option_or (find_back p xs i) (by (p x) i))
+  where
+    by : (t : Bool) → cond t (Some x) None ≡ then_some t x
+    by true = refl
+    by false = refl
 
 -- what holds of each row holds of the one found
 pub last_kept : {X : Type 0} (p q : X → Bool) (xs : List X) → each q xs ≡ true → IfSome (last_of p xs) (λ x. q x ≡ true)

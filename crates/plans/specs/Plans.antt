@@ -65,10 +65,12 @@ between most n = nat_le 1 n && nat_le n most
 abbrev pub rows_of : Status → List LotRow → ℕ
 rows_of s rows = count_by (λ r. same_status r.status s) rows
 
+abbrev pub each_status : (Status → Bool) → Bool
+each_status p = (p Normal && p Tightened) && p Reduced
+
 -- 1 to 32 rows for each status, 1 to 16 limit rows
 abbrev pub counts_kept : List LotRow → List LimitRow → Bool
-counts_kept rows limits =
-    ((between 32 (rows_of Normal rows) && between 32 (rows_of Tightened rows)) && between 32 (rows_of Reduced rows)) && between 16 (length limits)
+counts_kept rows limits = each_status (λ s. between 32 (rows_of s rows)) && between 16 (length limits)
 
 abbrev pub keeps : List LotRow → List LimitRow → Bool
 keeps rows limits =

@@ -101,10 +101,10 @@ impl PlanBook {
         ensures { (n : ℕ) × U.converts units n × (result ≡ limits_for n self.now.limits.items) }
     {
         let units = units.into();
-        let mut found = None;
-        for row in &self.limits {
-            found = fits_units(row, units).then_some(*row).or(found);
-        }
-        found
+        self.limits
+            .iter()
+            .rev()
+            .find(|row| fits_units(row, units))
+            .copied()
     }
 }
