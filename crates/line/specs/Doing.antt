@@ -1,5 +1,5 @@
 -- What a call comes to, in the steps that the code takes.
-use Rattle.std.specs.Prelude.{◌≡◌, ℕ, Bool, true, false, cond, not, List, [], ◌∷◌, is_err, is_some, Some, None, Ok, Err, Option, Result, nat_le}
+use Rattle.std.specs.Prelude.{◌≡◌, ℕ, ◌+◌, Bool, true, false, cond, not, List, [], ◌∷◌, length, is_err, is_some, Some, None, Ok, Err, Option, Result, nat_le}
 use Rattle.inspection.specs.declared.refusal.Refusal.{Refusal}
 use Rattle.inspection.specs.declared.refusal.Refusal.TheVariants.{NoPeriodOpen, LotAwaits, NoLotAwaits, LotSizeOutOfRange, NoRoom, BookUnsound}
 use Rattle.inspection.specs.declared.kind.Kind.{Kind}
@@ -18,7 +18,7 @@ use Rattle.runs.specs.Writing.{sheet_score}
 use Rattle.runs.specs.declared.standing.Reply.{Reply}
 use Rattle.runs.specs.declared.standing.Standing.{Standing}
 use Rattle.runs.specs.History.{Call, first, no_defects, is_awaited, is_rejected}
-use Rattle.runs.specs.Lines.{counted_on, awaiting, with_slip, after_article, turned_to, told, bare, Outcome, refuses, takes, settled, step, sample, or_zero, is_due, due_size}
+use Rattle.runs.specs.Lines.{awaiting, with_slip, after_article, turned_to, told, bare, Outcome, refuses, takes, settled, step, sample, or_zero, is_due, due_size}
 
 -- answer, standing, entries and room after a call are the defined ones
 abbrev pub ComesTo : {C : Type 0} → Outcome C → Result Reply Refusal → Standing C → List Entry → ℕ → Type 0
@@ -97,22 +97,22 @@ module _ {C : Type 0} (r : Rules C) where
   abbrev pub turned_by : Kind → Status → Standing C → Taken C
   turned_by k s st = record { reply = told Undecided s None; standing = turned_to r s st; writes = Some (bare k st.status Undecided) }
 
-  -- a lot's first sample after so many entries, and the lot answered W among such
-  abbrev pub lot_awaited : ℕ → ℕ → C → Option Entry → Standing C → Taken C
-  lot_awaited before z c writes st =
-      record { reply = told Awaited st.status (Some (counted_on before)); standing = awaiting (counted_on before) z c st; writes = writes }
+  -- a lot's first sample, and the lot answered W among such
+  abbrev pub lot_awaited : ℕ → C → Option Entry → Standing C → List Entry → Taken C
+  lot_awaited z c writes st es =
+      record { reply = told Awaited st.status (Some (length es + 1)); standing = awaiting (length es + 1) z c st; writes = writes }
 
-  abbrev pub lot_judged_at : ℕ → ℕ → ℕ → Tally → Verdict × C → Standing C → List Entry → Taken C
-  lot_judged_at before z u t x st es =
+  abbrev pub lot_judged_at : ℕ → ℕ → Tally → Verdict × C → Standing C → List Entry → Taken C
+  lot_judged_at z u t x st es =
       let entry : Entry = record { kind = kind.Lot; status = st.status; verdict = x.0; lot_size = z; units = u; tally = t } in
-      cond (is_awaited x.0) (lot_awaited before z x.1 (Some entry) st) (record {
+      cond (is_awaited x.0) (lot_awaited z x.1 (Some entry) st es) (record {
         reply = told x.0 (article_noted st es (is_rejected x.0) x.1).status None;
         standing = without_lot (article_noted st es (is_rejected x.0) x.1);
         writes = Some entry;
       })
 
-  abbrev pub lot_taken_at : ℕ → ℕ → ℕ → Tally → Standing C → List Entry → Taken C
-  lot_taken_at before z u t st es = lot_judged_at before z u t (r.judged st.status z t st.carried) st es
+  abbrev pub lot_taken_at : ℕ → ℕ → Tally → Standing C → List Entry → Taken C
+  lot_taken_at z u t st es = lot_judged_at z u t (r.judged st.status z t st.carried) st es
 
   -- a second sample of the waiting lot; nothing waits after it
   abbrev pub second_judged_at : ℕ → Tally → Verdict × C → Standing C → List Entry → Taken C

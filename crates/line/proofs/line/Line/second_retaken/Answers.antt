@@ -7,4 +7,4 @@ pub returns-in_err-units : goal.returns-in_err-units
 returns-in_err-units g c =
     let line = c.args.self.now in
     c.from_residual.ensures
-    ∙ second_unsampled_again (g.R.Regime.rules line.regime) line.standing (take c.args.before (g.B.Book.entries line.book)) c.args.entry c.second_sample.result c.in_err-units.ensures.value (c.second_sample.ensures ∙ ap (second_sample (g.R.Regime.rules line.regime) line.standing 1) c.due_number.ensures)
+    ∙ second_unsampled_again (g.R.Regime.rules line.regime) line.standing c.args.earlier.now c.args.entry c.second_sample.result c.in_err-units.ensures.value (c.second_sample.ensures ∙ ap (second_sample (g.R.Regime.rules line.regime) line.standing 1) c.due_number.ensures)
