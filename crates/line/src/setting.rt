@@ -95,17 +95,11 @@ where
         Some(self.lot_taken(earlier, entry.lot_size, sample))
     }
 
-    // The number of the waiting lot; no entry has the number 0.
-    fn due_number(&self) -> u32
-        ensures { result ≡ due_number self.now.standing.waiting }
-    {
-        self.standing.waiting.map_or(0, |lot| lot.number)
-    }
-
     fn second_retaken(&self, earlier: &Earlier<'_, B>, entry: Entry) -> Option<Taken<R::Carried>>
         ensures { result ≡ retaken_by (R.Regime.rules self.now.regime) (Some (enter_second (due_number self.now.standing.waiting) [])) entry self.now.standing earlier.now }
     {
-        let units = self.second_sample(1, self.due_number()).ok()?;
+        let number = self.waiting_number()?;
+        let units = self.second_sample(1, number).ok()?;
         let sample = shown(units, entry.tally)?;
         Some(self.second_taken(earlier, sample))
     }
