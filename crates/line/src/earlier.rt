@@ -103,9 +103,9 @@ impl<'a, B: Book> Earlier<'a, B> {
     {
         match (entry.kind, entry.verdict) {
             (Kind::Lot, Verdict::Awaited) => Seen::NOTHING,
-            (Kind::Portion, _) | (Kind::Lot, _) => Seen::of_entry(entry),
+            (Kind::Portion, _) | (Kind::Lot, _) => Seen::from(entry),
             (Kind::SecondSample, _) => match self.first_sample() {
-                Some(first) => Seen::of_sample(first) + Seen::of_entry(entry),
+                Some(first) => Seen::from(first) + Seen::from(entry),
                 None => Seen::NOTHING,
             },
             _ => Seen::NOTHING,
