@@ -63,7 +63,7 @@ impl From<Entry> for Seen {
         Seen {
             articles: 1,
             rejected: u32::from(entry.verdict == Verdict::Rejected),
-            ..Seen::from(Sample::of_entry(entry))
+            ..Seen::from(Sample::from(entry))
         }
     }
 }
