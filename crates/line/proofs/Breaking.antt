@@ -49,12 +49,9 @@ one_more k n = by (leb k n) refl
     by false t = let h : n < k = leb-false k n t in sym (le-ltb k (1 + n) (omega arith))
 
 -- the rule of each status, from what is seen of as many articles as it looks at
-module _ (window most_rejected s m : ℕ) (es : List Entry) (st : Status) (rejected : Bool) (x : Seen) (earlier : List Entry) (is : earlier ≡ es) (looked : x ≡ seen_of (last_articles m (articles earlier))) where
+module _ (window most_rejected s m : ℕ) (es : List Entry) (st : Status) (rejected : Bool) (x : Seen) (seen : x ≡ seen_of (last_articles m (articles es))) where
   abbrev xs : List Article
   xs = articles es
-
-  seen : x ≡ seen_of (last_articles m xs)
-  seen = looked ∙ ap (λ l. seen_of (last_articles m (articles l))) is
 
   rejected_of : (n : ℕ) → m ≡ min s n → x.rejected ≡ rejections (last_of n (verdicts (last_articles s xs)))
   rejected_of n e = ap (λ (y : Seen). y.rejected) seen ∙ ap rejections (sym (last_verdicts s n m xs e))

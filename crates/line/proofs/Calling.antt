@@ -69,10 +69,9 @@ module _ {R B C : Type 0} (entries : B → List Entry) (room : B → ℕ) (r : R
         let none = passed_by _ passed ∙ ap (λ m. refuses r sheet_score end_period st [] m) left_is in
         call_written end_period _ none same refl (has_room st.unsound (not (is_some st.period)) (leb (room before.book) 0) NoPeriodOpen NoRoom _ none) refl
 
-    pub relief_does : (count : ℕ) → count ≡ length (entries before.book) → Ok tt ≡ answered (refuses r sheet_score grant_relief before.standing (take count (entries before.book)) left)
+    pub relief_does : (earlier : List Entry) → earlier ≡ entries before.book → Ok tt ≡ answered (refuses r sheet_score grant_relief before.standing earlier left)
         → k ≡ takes r sheet_score grant_relief before.standing [] → Does entries room (step r sheet_score grant_relief) before a after
-    relief_does count all passed same =
+    relief_does earlier whole passed same =
         let st = before.standing in
-        let whole : take count (entries before.book) ≡ entries before.book = take_all count (entries before.book) (omega arith) in
         let none = passed_by _ passed ∙ (λ i. refuses r sheet_score grant_relief st (whole i) (left_is i)) in
         call_written grant_relief _ none same refl (has_room st.unsound (is_some st.waiting) (leb (room before.book) 0) LotAwaits NoRoom _ none) refl

@@ -64,22 +64,11 @@ module _ {C : Type 0} (r : Rules C) (st : Standing C) (es : List Entry) (e : Ent
       retaken_by_sample e.tally lot_with st.unsound ((is_some st.waiting, LotAwaits) ∷ (leb 1 0, NoRoom) ∷ (not (is_some (sample r st e.lot_size)), LotSizeOutOfRange) ∷ []) (or_zero (sample r st e.lot_size))
 
   -- a lot whose sample can show the entry's tally
-  pub lot_again : (before u : ℕ) (found : Result ℕ Refusal) (a : Sample) (taken : Taken C) → length es ≡ before → before ≤ 9999999 → found ≡ lot_sample r st 1 e.lot_size → Some u ≡ result_ok found → Some a ≡ sample_showing u e.tally
-      → taken ≡ lot_taken_at r before e.lot_size a.units a.tally st es → Some taken ≡ retaken_by r (Some (enter_lot e.lot_size [])) e st es
-  lot_again before u found a taken is few sampled units shows came =
+  pub lot_again : (u : ℕ) (found : Result ℕ Refusal) (a : Sample) (taken : Taken C) → found ≡ lot_sample r st 1 e.lot_size → Some u ≡ result_ok found → Some a ≡ sample_showing u e.tally
+      → taken ≡ lot_taken_at r e.lot_size a.units a.tally st es → Some taken ≡ retaken_by r (Some (enter_lot e.lot_size [])) e st es
+  lot_again u found a taken sampled units shows came =
       let shown = sample_shown u e.tally a shows in
-      ap {B = Option (Taken C)} (λ k. Some k) (came ∙ ap (λ (a : Sample). lot_taken_at r before e.lot_size a.units a.tally st es) shown.1 ∙ lot_same r before e.lot_size u e.tally (r.judged st.status e.lot_size e.tally st.carried).0 (r.judged st.status e.lot_size e.tally st.carried).1 st es (omega arith))
+      ap {B = Option (Taken C)} (λ k. Some k) (came ∙ ap (λ (a : Sample). lot_taken_at r e.lot_size a.units a.tally st es) shown.1 ∙ lot_same r e.lot_size u e.tally (r.judged st.status e.lot_size e.tally st.carried).0 (r.judged st.status e.lot_size e.tally st.carried).1 st es)
       ∙ ap (λ b. cond b (Some (lot_with u e.tally)) None) shown.0
       ∙ ap (by_sample e.tally lot_with) (was_ok u found units ∙ sampled)
       ∙ lot_by_sample
-
-  abbrev due : ℕ
-  due = due_size st.waiting
-
-  -- a second sample that has no units is not taken again
-  pub second_unsampled_again : (found : Result ℕ Refusal) → None ≡ result_ok found → found ≡ second_sample r st 1 (due_number st.waiting) → None ≡ retaken_by r (Some (enter_second (due_number st.waiting) [])) e st es
-  second_unsampled_again (Ok u) none sampled = let z : ◌≡◌ {A = ℕ} 0 1 = cc in absurd (omega arith)
-  second_unsampled_again (Err x) none sampled =
-      let K : ℕ → Tally → Taken C = λ u t. second_taken r due u t (r.judged st.status due t st.carried) (reading es).first_sample st es in
-      ap (by_sample e.tally K) sampled
-      ∙ retaken_by_sample e.tally K st.unsound ((not (has_slip (due_number st.waiting) st.waiting), NoLotAwaits) ∷ (leb 1 0, NoRoom) ∷ (not (is_some (sample r st due)), LotSizeOutOfRange) ∷ []) (or_zero (sample r st due))

@@ -104,30 +104,22 @@ module _ {C : Type 0} (r : Rules C) (st : Standing C) (es : List Entry) (n : ℕ
         let sampled = second_sampled w h in
         faulty b w (or_zero (sample r st due)) sampled.0 e bad ∙ sampled.1
 
--- a lot under the number that the code counts to
-pub lot_same : {C : Type 0} (r : Rules C) (before z u : ℕ) (t : Tally) (v : Verdict) (c : C) (st : Standing C) (es : List Entry) → counted_on before ≡ length es + 1 → lot_judged_at r before z u t (v, c) st es ≡ lot_taken r z u t (v, c) st es
-lot_same r before z u t Accepted c st es e = refl
-lot_same r before z u t Rejected c st es e = refl
-lot_same r before z u t Awaited c st es e = λ i. record {
-  reply = told Awaited st.status (Some (e i));
-  standing = awaiting (e i) z c st;
-  writes = Some (record { kind = kind.Lot; status = st.status; verdict = Awaited; lot_size = z; units = u; tally = t });
-}
-lot_same r before z u t Full c st es e = refl
-lot_same r before z u t Brief c st es e = refl
-lot_same r before z u t Undecided c st es e = refl
+-- a lot, with the question whether it waits asked once
+pub lot_same : {C : Type 0} (r : Rules C) (z u : ℕ) (t : Tally) (v : Verdict) (c : C) (st : Standing C) (es : List Entry) → lot_judged_at r z u t (v, c) st es ≡ lot_taken r z u t (v, c) st es
+lot_same r z u t Accepted c st es = refl
+lot_same r z u t Rejected c st es = refl
+lot_same r z u t Awaited c st es = refl
+lot_same r z u t Full c st es = refl
+lot_same r z u t Brief c st es = refl
+lot_same r z u t Undecided c st es = refl
 
--- a book read to its end is read whole
-read_whole : (before : ℕ) (es : List Entry) → before ≡ length es → take before es ≡ es
-read_whole before es e = take_all before es (omega arith)
-
--- the accepted calls of sheets that showed the sample, where `count` is the book's and `left` its room
+-- the accepted calls of sheets that showed the sample, where `earlier` are the book's entries and `left` its room
 module _ {R B C : Type 0} (entries : B → List Entry) (room : B → ℕ) (r : Rules C) (only : WritesOnlyWritable r sheet_score) (before after : Line R B C) (k : Taken C) (a : Result Reply Refusal) (done : Does entries room (booked k) before a after)
-    (b : List ℕ) (count : ℕ) (counted : count ≡ length (entries before.book)) (left : ℕ) (left_is : left ≡ room before.book) (w : ℕ) (t : Tally) (shown : Ok t ≡ score_of b w) where
+    (b : List ℕ) (earlier : List Entry) (whole : earlier ≡ entries before.book) (left : ℕ) (left_is : left ≡ room before.book) (w : ℕ) (t : Tally) (shown : Ok t ≡ score_of b w) where
   abbrev Comes : Call → Type 0
   Comes c = Does entries room (step r sheet_score c) before a after
 
-  pub portion_comes : Served r (enter_portion b) → Ok w ≡ portion_sample r before.standing left → k ≡ portion_taken r w t (r.judged before.standing.status 0 t before.standing.carried) before.standing (take count (entries before.book)) → Comes (enter_portion b)
+  pub portion_comes : Served r (enter_portion b) → Ok w ≡ portion_sample r before.standing left → k ≡ portion_taken r w t (r.judged before.standing.status 0 t before.standing.carried) before.standing earlier → Comes (enter_portion b)
   portion_comes served units taken =
       let st = before.standing in
       let es = entries before.book in
@@ -137,11 +129,11 @@ module _ {R B C : Type 0} (entries : B → List Entry) (room : B → ℕ) (r : R
       let none = sound b w u sampled.0 t shown ∙ sampled.1 in
       let tally = tally_known b w u sampled.0 t shown in
       let judged = r.judged st.status 0 t st.carried in
-      let same : k ≡ takes r sheet_score (enter_portion b) st es = taken ∙ ap (portion_taken r w t judged st) (read_whole count es counted) ∙ (λ i. portion_taken r (sampled.0 i) (tally i) (r.judged st.status 0 (tally i) st.carried) st es) in
+      let same : k ≡ takes r sheet_score (enter_portion b) st es = taken ∙ ap (portion_taken r w t judged st) whole ∙ (λ i. portion_taken r (sampled.0 i) (tally i) (r.judged st.status 0 (tally i) st.carried) st es) in
       call_written entries room r before after k a done (enter_portion b) _ none same refl sampled.2 (only (enter_portion b) st es n _ served (sym none) refl)
 
-  pub lot_comes : (z : ℕ) → Served r (enter_lot z b) → length (entries before.book) + room before.book ≤ 9999999 → Ok w ≡ lot_sample r before.standing left z → k ≡ lot_taken_at r count z w t before.standing (take count (entries before.book)) → Comes (enter_lot z b)
-  lot_comes z served few units taken =
+  pub lot_comes : (z : ℕ) → Served r (enter_lot z b) → Ok w ≡ lot_sample r before.standing left z → k ≡ lot_taken_at r z w t before.standing earlier → Comes (enter_lot z b)
+  lot_comes z served units taken =
       let st = before.standing in
       let es = entries before.book in
       let n = room before.book in
@@ -151,11 +143,11 @@ module _ {R B C : Type 0} (entries : B → List Entry) (room : B → ℕ) (r : R
       let tally = tally_known b w u sampled.0 t shown in
       let judged = r.judged st.status z t st.carried in
       let same : k ≡ takes r sheet_score (enter_lot z b) st es =
-      taken ∙ ap (lot_taken_at r count z w t st) (read_whole count es counted) ∙ lot_same r count z w t judged.0 judged.1 st es (omega arith) ∙ (λ i. lot_taken r z (sampled.0 i) (tally i) (r.judged st.status z (tally i) st.carried) st es)
+      taken ∙ ap (lot_taken_at r z w t st) whole ∙ lot_same r z w t judged.0 judged.1 st es ∙ (λ i. lot_taken r z (sampled.0 i) (tally i) (r.judged st.status z (tally i) st.carried) st es)
       in
       call_written entries room r before after k a done (enter_lot z b) _ none same refl sampled.2 (only (enter_lot z b) st es n _ served (sym none) refl)
 
-  pub second_comes : (number : ℕ) → Served r (enter_second number b) → Ok w ≡ second_sample r before.standing left number → k ≡ second_taken_at r w t before.standing (take count (entries before.book)) → Comes (enter_second number b)
+  pub second_comes : (number : ℕ) → Served r (enter_second number b) → Ok w ≡ second_sample r before.standing left number → k ≡ second_taken_at r w t before.standing earlier → Comes (enter_second number b)
   second_comes number served units taken =
       let st = before.standing in
       let es = entries before.book in
@@ -165,5 +157,5 @@ module _ {R B C : Type 0} (entries : B → List Entry) (room : B → ℕ) (r : R
       let sampled = second_sampled r st es n b left left_is number w units in
       let none = sound b w u sampled.0 t shown ∙ sampled.1 in
       let tally = tally_known b w u sampled.0 t shown in
-      let same : k ≡ takes r sheet_score (enter_second number b) st es = taken ∙ ap (second_taken_at r w t st) (read_whole count es counted) ∙ (λ i. second_taken r z (sampled.0 i) (tally i) (r.judged st.status z (tally i) st.carried) (reading es).first_sample st es) in
+      let same : k ≡ takes r sheet_score (enter_second number b) st es = taken ∙ ap (second_taken_at r w t st) whole ∙ (λ i. second_taken r z (sampled.0 i) (tally i) (r.judged st.status z (tally i) st.carried) (reading es).first_sample st es) in
       call_written entries room r before after k a done (enter_second number b) _ none same refl sampled.2 (only (enter_second number b) st es n _ served (sym none) refl)

@@ -1,5 +1,5 @@
 -- What a call comes to, in the steps that the code takes.
-use Rattle.std.specs.Prelude.{◌≡◌, ℕ, Bool, true, cond, not, List, [], ◌∷◌, is_err, is_some, Some, None, Ok, Err, Option, Result, nat_le}
+use Rattle.std.specs.Prelude.{◌≡◌, ℕ, ◌+◌, Bool, true, cond, not, List, [], ◌∷◌, length, is_err, is_some, Some, None, Ok, Err, Option, Result, nat_le}
 use Rattle.inspection.specs.declared.refusal.Refusal.{Refusal}
 use Rattle.inspection.specs.declared.refusal.Refusal.TheVariants.{NoPeriodOpen, LotAwaits, NoLotAwaits, LotSizeOutOfRange, NoRoom, BookUnsound}
 use Rattle.inspection.specs.declared.kind.Kind.{Kind}
@@ -18,7 +18,7 @@ use Rattle.runs.specs.Writing.{sheet_score}
 use Rattle.runs.specs.declared.standing.Reply.{Reply}
 use Rattle.runs.specs.declared.standing.Standing.{Standing}
 use Rattle.runs.specs.History.{Call, first, no_defects, is_awaited, is_rejected}
-use Rattle.runs.specs.Lines.{counted_on, awaiting, after_article, turned_to, told, bare, Outcome, refuses, takes, settled, step, sample, or_zero, has_slip, due_size}
+use Rattle.runs.specs.Lines.{awaiting, after_article, turned_to, told, bare, Outcome, refuses, takes, settled, step, sample, or_zero, has_slip, due_size}
 
 -- answer, standing, entries and room after a call are the defined ones
 abbrev pub ComesTo : {C : Type 0} → Outcome C → Result Reply Refusal → Standing C → List Entry → ℕ → Type 0
@@ -97,10 +97,10 @@ module _ {C : Type 0} (r : Rules C) where
   abbrev pub turned_by : Kind → Status → Standing C → Taken C
   turned_by k s st = record { reply = told Undecided s None; standing = turned_to r s st; writes = Some (bare k st.status Undecided) }
 
-  -- a lot's first sample after so many entries, and the lot answered W among such
-  abbrev pub lot_awaited : ℕ → ℕ → C → Option Entry → Standing C → Taken C
-  lot_awaited before z c writes st =
-      record { reply = told Awaited st.status (Some (counted_on before)); standing = awaiting (counted_on before) z c st; writes = writes }
+  -- a lot's first sample, and the lot answered W among such
+  abbrev pub lot_awaited : ℕ → C → Option Entry → Standing C → List Entry → Taken C
+  lot_awaited z c writes st es =
+      record { reply = told Awaited st.status (Some (length es + 1)); standing = awaiting (length es + 1) z c st; writes = writes }
 
   -- a lot judged by the entry, of which the article is rejected or not; nothing waits after it
   abbrev pub lot_decided : Entry → C → Standing C → List Entry → Taken C
@@ -108,13 +108,13 @@ module _ {C : Type 0} (r : Rules C) where
       let noted = article_noted st es (is_rejected e.verdict) c in
       record { reply = told e.verdict noted.status None; standing = without_lot noted; writes = Some e }
 
-  abbrev pub lot_judged_at : ℕ → ℕ → ℕ → Tally → Verdict × C → Standing C → List Entry → Taken C
-  lot_judged_at before z u t x st es =
+  abbrev pub lot_judged_at : ℕ → ℕ → Tally → Verdict × C → Standing C → List Entry → Taken C
+  lot_judged_at z u t x st es =
       let entry : Entry = record { kind = kind.Lot; status = st.status; verdict = x.0; lot_size = z; units = u; tally = t } in
-      cond (is_awaited x.0) (lot_awaited before z x.1 (Some entry) st) (lot_decided entry x.1 st es)
+      cond (is_awaited x.0) (lot_awaited z x.1 (Some entry) st es) (lot_decided entry x.1 st es)
 
-  abbrev pub lot_taken_at : ℕ → ℕ → ℕ → Tally → Standing C → List Entry → Taken C
-  lot_taken_at before z u t st es = lot_judged_at before z u t (r.judged st.status z t st.carried) st es
+  abbrev pub lot_taken_at : ℕ → ℕ → Tally → Standing C → List Entry → Taken C
+  lot_taken_at z u t st es = lot_judged_at z u t (r.judged st.status z t st.carried) st es
 
   -- a second sample of the waiting lot
   abbrev pub second_judged_at : ℕ → Tally → Verdict × C → Standing C → List Entry → Taken C

@@ -2,6 +2,7 @@
 ghost use Rattle.runs.specs.History.{grant_relief, report_irregular};
 ghost use Rattle.line.specs.Doing.{Does, DoesCall, booked};
 
+use crate::earlier::Earlier;
 use crate::line::Line;
 use books::book::Book;
 use inspection::refusal::Refusal;
@@ -26,7 +27,8 @@ where
     pub(crate) fn grant_relief(&mut self) -> Result<Reply, Refusal>
         ensures { DoesCall B.Book.entries B.Book.room (R.Regime.rules self.old.regime) grant_relief self.old result self.new }
     {
-        self.check_relief(self.book.count(), self.book.room_left())?;
+        let room = self.book.room_left();
+        self.check_relief(&Earlier::whole(&self.book), room)?;
         let taken = self.relief_taken();
         self.settle(taken)
     }

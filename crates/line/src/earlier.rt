@@ -1,5 +1,5 @@
 // The first entries of a book: what a call, or an entry that is replayed, finds before it.
-ghost use Rattle.std.specs.Prelude.{◌≡◌, ◌≤◌, List, [], ◌∷◌, ◌++◌, length, take, MatchOption};
+ghost use Rattle.std.specs.Prelude.{◌≡◌, ◌+◌, ◌≤◌, List, [], ◌∷◌, ◌++◌, length, take, MatchOption};
 ghost use Rattle.entries.specs.declared.entry.Entry.{Entry as Written};
 ghost use Rattle.runs.specs.Lines.{reading, articles, last_articles};
 ghost use Rattle.line.specs.Seeing.{seen_of, seen_entry, as_held, Within};
@@ -36,6 +36,23 @@ impl<'a, B: Book> Earlier<'a, B> {
             book,
             count: before.min(book.count()),
         }
+    }
+
+    // All the entries of the book.
+    pub(crate) fn whole(book: &'a B) -> Earlier<'a, B>
+        ensures { result ≡ B.Book.entries book.now }
+    {
+        Earlier {
+            book,
+            count: book.count(),
+        }
+    }
+
+    // The number of the entry after them.
+    pub(crate) fn next_number(&self) -> u32
+        ensures { result ≡ length self.now + 1 }
+    {
+        self.count + 1
     }
 
     // All of them again, to be read back.
@@ -86,9 +103,9 @@ impl<'a, B: Book> Earlier<'a, B> {
     {
         match (entry.kind, entry.verdict) {
             (Kind::Lot, Verdict::Awaited) => Seen::NOTHING,
-            (Kind::Portion, _) | (Kind::Lot, _) => Seen::of_entry(entry),
+            (Kind::Portion, _) | (Kind::Lot, _) => Seen::from(entry),
             (Kind::SecondSample, _) => match self.first_sample() {
-                Some(first) => Seen::of_sample(first) + Seen::of_entry(entry),
+                Some(first) => Seen::from(first) + Seen::from(entry),
                 None => Seen::NOTHING,
             },
             _ => Seen::NOTHING,

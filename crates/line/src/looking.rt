@@ -1,5 +1,5 @@
 // Whether an article turns the status, by the articles before it.
-ghost use Rattle.std.specs.Prelude.{◌≡◌, take};
+ghost use Rattle.std.specs.Prelude.{◌≡◌};
 ghost use Rattle.runs.specs.History.{verdicts, is_rejected};
 ghost use Rattle.runs.specs.Lines.{in_spell};
 ghost use Rattle.runs.specs.Spells.{breaks};
@@ -15,11 +15,10 @@ impl<R: Regime, B: Book> Line<R, B>
 where
     R::Carried: Copy,
 {
-    // Whether an article with the verdict, after the entries up to the number `before`, breaks the rule of the spell.
-    pub(crate) fn turns(&self, before: u32, verdict: Verdict) -> bool
-        ensures { result ≡ breaks (R.Regime.rules self.now.regime).window (R.Regime.rules self.now.regime).most_rejected self.now.standing.status (verdicts (in_spell (R.Regime.rules self.now.regime) self.now.standing (take before (B.Book.entries self.now.book)))) (is_rejected verdict) }
+    // Whether an article with the verdict, after the earlier entries, breaks the rule of the spell.
+    pub(crate) fn turns(&self, earlier: &Earlier<'_, B>, verdict: Verdict) -> bool
+        ensures { result ≡ breaks (R.Regime.rules self.now.regime).window (R.Regime.rules self.now.regime).most_rejected self.now.standing.status (verdicts (in_spell (R.Regime.rules self.now.regime) self.now.standing earlier.now)) (is_rejected verdict) }
     {
-        let earlier = Earlier::of(&self.book, before);
         let spell = self.standing.spell;
         match (self.standing.status, verdict) {
             (Status::Normal, Verdict::Rejected) => earlier.look_back(spell.min(4)).rejected > 0,

@@ -4,6 +4,7 @@ ghost use Rattle.runs.specs.Writing.{plan_rules};
 ghost use Rattle.line.specs.Doing.{DoesCall};
 ghost use Rattle.line.specs.Slips.{lot_answer, shown_answer, SlipGiven, SlipBack};
 
+use crate::earlier::Earlier;
 use crate::line::Line;
 use crate::sample::Sample;
 use crate::slip::{Refused, Slip};
@@ -29,7 +30,7 @@ impl<B: Book> Line<Stationary, B> {
     {
         let units = self.lot_sample(self.book.room_left(), size)?;
         let tally = score(sheet, units)?;
-        let taken = self.lot_taken(self.book.count(), size, Sample { units, tally });
+        let taken = self.lot_taken(&Earlier::whole(&self.book), size, Sample { units, tally });
         let reply = self.settle(taken)?;
         Ok((reply, reply.slip.map(Slip::of)))
     }
@@ -48,7 +49,7 @@ impl<B: Book> Line<Stationary, B> {
     {
         let units = self.second_sample(self.book.room_left(), number)?;
         let tally = score(sheet, units)?;
-        let taken = self.second_taken(self.book.count(), Sample { units, tally });
+        let taken = self.second_taken(&Earlier::whole(&self.book), Sample { units, tally });
         self.settle(taken)
     }
 

@@ -3,6 +3,7 @@ ghost use Rattle.regimes.specs.Portions.{on_line_rules};
 ghost use Rattle.runs.specs.History.{open_period, enter_portion, end_period};
 ghost use Rattle.line.specs.Doing.{DoesCall};
 
+use crate::earlier::Earlier;
 use crate::line::Line;
 use crate::sample::Sample;
 use books::book::Book;
@@ -27,7 +28,7 @@ impl<B: Book> Line<OnLine, B> {
     {
         let units = self.portion_sample(self.book.room_left())?;
         let tally = score(sheet, units)?;
-        let taken = self.portion_taken(self.book.count(), Sample { units, tally });
+        let taken = self.portion_taken(&Earlier::whole(&self.book), Sample { units, tally });
         self.settle(taken)
     }
 

@@ -13,22 +13,25 @@ pub(crate) struct Sample {
     pub(crate) tally: Tally,
 }
 
-impl Sample {
-    pub(crate) fn of_entry(entry: Entry) -> Sample
-        ensures { result ≡ record { units = entry.units; tally = entry.tally } }
-    {
+// The sample of an entry.
+impl From<Entry> for Sample {
+    ghost from_gives = { λ entry sample. sample ≡ record { units = entry.units; tally = entry.tally } };
+
+    fn from(entry: Entry) -> Sample {
         Sample {
             units: entry.units,
             tally: entry.tally,
         }
     }
+}
 
+impl Sample {
     // The first sample of a lot's entry, if the lot awaits its second.
     pub(crate) fn of_lot(entry: Entry) -> Option<Sample>
         ensures { result ≡ first_of_lot entry }
     {
         match entry.verdict {
-            Verdict::Awaited => Some(Sample::of_entry(entry)),
+            Verdict::Awaited => Some(Sample::from(entry)),
             _ => None,
         }
     }

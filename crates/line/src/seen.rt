@@ -30,11 +30,19 @@ impl Seen {
         },
     };
 
-    // A sample that decides no article by itself.
-    pub(crate) fn of_sample(sample: Sample) -> Seen
-        ensures value { result ≡ seen_sample sample }
-        ensures within { Within 1 result }
+    // Whether the defects of some class are above its limit.
+    pub(crate) fn is_above(&self, limits: &Limits) -> bool
+        ensures { result ≡ is_above self.now limits.now }
     {
+        JudgedClass::ALL.iter().any(|class| self.defects.of(*class) > u64::from(limits.of(*class)))
+    }
+}
+
+// A sample that decides no article by itself.
+impl From<Sample> for Seen {
+    ghost from_gives = { λ sample seen. (seen ≡ seen_sample sample) × Within 1 seen };
+
+    fn from(sample: Sample) -> Seen {
         Seen {
             units: u64::from(sample.units),
             defects: PerClass {
@@ -45,27 +53,18 @@ impl Seen {
             ..Seen::NOTHING
         }
     }
+}
 
-    // The article that an entry's sample decides by itself.
-    pub(crate) fn of_entry(entry: Entry) -> Seen
-        ensures value { result ≡ seen_of (sole entry ∷ []) }
-        ensures within { Within 1 result }
-    {
+// The article that an entry's sample decides by itself.
+impl From<Entry> for Seen {
+    ghost from_gives = { λ entry seen. (seen ≡ seen_of (sole entry ∷ [])) × Within 1 seen };
+
+    fn from(entry: Entry) -> Seen {
         Seen {
             articles: 1,
-            rejected: match entry.verdict {
-                Verdict::Rejected => 1,
-                _ => 0,
-            },
-            ..Seen::of_sample(Sample::of_entry(entry))
+            rejected: u32::from(entry.verdict == Verdict::Rejected),
+            ..Seen::from(Sample::from(entry))
         }
-    }
-
-    // Whether the defects of some class are above its limit.
-    pub(crate) fn is_above(&self, limits: &Limits) -> bool
-        ensures { result ≡ is_above self.now limits.now }
-    {
-        JudgedClass::ALL.iter().any(|class| self.defects.of(*class) > u64::from(limits.of(*class)))
     }
 }
 

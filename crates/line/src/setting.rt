@@ -5,6 +5,7 @@ ghost use Rattle.runs.specs.Lines.{due_number};
 ghost use Rattle.runs.specs.Runs.{unsound_at, replay_one, replay};
 ghost use Rattle.line.specs.Replaying.{sample_showing, left_by, retaken_call, retaken_by, retaken};
 
+use crate::earlier::Earlier;
 use crate::line::Line;
 use crate::sample::Sample;
 use crate::taking::with_slip;
@@ -62,10 +63,10 @@ where
         Some(self.end_taken())
     }
 
-    fn relief_retaken(&self, before: u32) -> Option<Taken<R::Carried>>
-        ensures { result ≡ retaken_call (R.Regime.rules self.now.regime) grant_relief self.now.standing (take before (B.Book.entries self.now.book)) }
+    fn relief_retaken(&self, earlier: &Earlier<'_, B>) -> Option<Taken<R::Carried>>
+        ensures { result ≡ retaken_call (R.Regime.rules self.now.regime) grant_relief self.now.standing earlier.now }
     {
-        self.check_relief(before, 1).ok()?;
+        self.check_relief(earlier, 1).ok()?;
         Some(self.relief_taken())
     }
 
@@ -76,50 +77,42 @@ where
         Some(self.notice_taken())
     }
 
-    fn portion_retaken(&self, before: u32, entry: Entry) -> Option<Taken<R::Carried>>
-        ensures { result ≡ retaken_by (R.Regime.rules self.now.regime) (Some (enter_portion [])) entry self.now.standing (take before (B.Book.entries self.now.book)) }
+    fn portion_retaken(&self, earlier: &Earlier<'_, B>, entry: Entry) -> Option<Taken<R::Carried>>
+        ensures { result ≡ retaken_by (R.Regime.rules self.now.regime) (Some (enter_portion [])) entry self.now.standing earlier.now }
     {
         let units = self.portion_sample(1).ok()?;
         let sample = shown(units, entry.tally)?;
-        Some(self.portion_taken(before, sample))
+        Some(self.portion_taken(earlier, sample))
     }
 
-    fn lot_retaken(&self, before: u32, entry: Entry) -> Option<Taken<R::Carried>>
-        requires { before < length (B.Book.entries self.now.book) }
-        ensures { result ≡ retaken_by (R.Regime.rules self.now.regime) (Some (enter_lot entry.lot_size [])) entry self.now.standing (take before (B.Book.entries self.now.book)) }
+    fn lot_retaken(&self, earlier: &Earlier<'_, B>, entry: Entry) -> Option<Taken<R::Carried>>
+        ensures { result ≡ retaken_by (R.Regime.rules self.now.regime) (Some (enter_lot entry.lot_size [])) entry self.now.standing earlier.now }
     {
         let units = self.lot_sample(1, entry.lot_size).ok()?;
         let sample = shown(units, entry.tally)?;
-        Some(self.lot_taken(before, entry.lot_size, sample))
+        Some(self.lot_taken(earlier, entry.lot_size, sample))
     }
 
-    // The number of the waiting lot; no entry has the number 0.
-    fn due_number(&self) -> u32
-        ensures { result ≡ due_number self.now.standing.waiting }
+    fn second_retaken(&self, earlier: &Earlier<'_, B>, entry: Entry) -> Option<Taken<R::Carried>>
+        ensures { result ≡ retaken_by (R.Regime.rules self.now.regime) (Some (enter_second (due_number self.now.standing.waiting) [])) entry self.now.standing earlier.now }
     {
-        self.standing.waiting.map_or(0, |lot| lot.number)
-    }
-
-    fn second_retaken(&self, before: u32, entry: Entry) -> Option<Taken<R::Carried>>
-        ensures { result ≡ retaken_by (R.Regime.rules self.now.regime) (Some (enter_second (due_number self.now.standing.waiting) [])) entry self.now.standing (take before (B.Book.entries self.now.book)) }
-    {
-        let units = self.second_sample(1, self.due_number()).ok()?;
+        let number = self.waiting_number()?;
+        let units = self.second_sample(1, number).ok()?;
         let sample = shown(units, entry.tally)?;
-        Some(self.second_taken(before, sample))
+        Some(self.second_taken(earlier, sample))
     }
 
     // What the call comes to that would have written the entry, where the line serves and takes it.
-    fn retaken(&self, before: u32, entry: Entry) -> Option<Taken<R::Carried>>
-        requires { before < length (B.Book.entries self.now.book) }
-        ensures { result ≡ retaken (R.Regime.rules self.now.regime) entry self.now.standing (take before (B.Book.entries self.now.book)) }
+    fn retaken(&self, earlier: &Earlier<'_, B>, entry: Entry) -> Option<Taken<R::Carried>>
+        ensures { result ≡ retaken (R.Regime.rules self.now.regime) entry self.now.standing earlier.now }
     {
         match (entry.kind, self.regime.judges_portions()) {
             (Kind::PeriodOpened, true) => self.open_retaken(),
-            (Kind::Portion, true) => self.portion_retaken(before, entry),
+            (Kind::Portion, true) => self.portion_retaken(earlier, entry),
             (Kind::PeriodEnded, true) => self.end_retaken(),
-            (Kind::Lot, false) => self.lot_retaken(before, entry),
-            (Kind::SecondSample, false) => self.second_retaken(before, entry),
-            (Kind::Relief, _) => self.relief_retaken(before),
+            (Kind::Lot, false) => self.lot_retaken(earlier, entry),
+            (Kind::SecondSample, false) => self.second_retaken(earlier, entry),
+            (Kind::Relief, _) => self.relief_retaken(earlier),
             (Kind::IrregularNotice, _) => self.notice_retaken(),
             _ => None,
         }
@@ -137,7 +130,11 @@ where
         }
         let bad = unsound_at(before + 1, self.standing);
         self.standing = with_slip(self.standing, true);
-        self.standing = left_by(entry, self.retaken(before, entry), bad);
+        self.standing = left_by(
+            entry,
+            self.retaken(&Earlier::of(&self.book, before), entry),
+            bad,
+        );
     }
 
     // Sets the line on the book: it stands as its entries leave it, or unsound at the first that it would not have written.

@@ -1,5 +1,5 @@
-// What each call comes to where it is not refused, and what refuses it, from a line as it stands after the entries up to the number `before`.
-ghost use Rattle.std.specs.Prelude.{◌≡◌, false, [], ◌∷◌, not, is_some, nat_le, take, if◌then◌else◌, Some, None};
+// What each call comes to where it is not refused, and what refuses it, from a line as it stands after the earlier entries.
+ghost use Rattle.std.specs.Prelude.{◌≡◌, false, [], ◌∷◌, not, is_some, nat_le, if◌then◌else◌, Some, None};
 ghost use Rattle.std.specs.Option.{ok_or};
 ghost use Rattle.inspection.specs.declared.refusal.Refusal.TheVariants as refused;
 ghost use Rattle.books.specs.Books.{answered};
@@ -197,13 +197,13 @@ where
     #[tactic(auto, using(crate::proofs::Noted::noted_turned, crate::proofs::Noted::noted_kept))]
     fn after_article(
         &self,
-        before: u32,
+        earlier: &Earlier<'_, B>,
         verdict: Verdict,
         carried: R::Carried,
     ) -> Standing<R::Carried>
-        ensures { result ≡ article_noted (R.Regime.rules self.now.regime) self.now.standing (take before (B.Book.entries self.now.book)) (is_rejected verdict) carried }
+        ensures { result ≡ article_noted (R.Regime.rules self.now.regime) self.now.standing earlier.now (is_rejected verdict) carried }
     {
-        if self.turns(before, verdict) {
+        if self.turns(earlier, verdict) {
             self.new_spell(turned(self.standing.status))
         } else {
             Standing {
@@ -236,13 +236,17 @@ where
         (entry, carried)
     }
 
-    pub(crate) fn portion_taken(&self, before: u32, sample: Sample) -> Taken<R::Carried>
-        ensures { result ≡ portion_taken (R.Regime.rules self.now.regime) sample.units sample.tally ((R.Regime.rules self.now.regime).judged self.now.standing.status 0 sample.tally self.now.standing.carried) self.now.standing (take before (B.Book.entries self.now.book)) }
+    pub(crate) fn portion_taken(
+        &self,
+        earlier: &Earlier<'_, B>,
+        sample: Sample,
+    ) -> Taken<R::Carried>
+        ensures { result ≡ portion_taken (R.Regime.rules self.now.regime) sample.units sample.tally ((R.Regime.rules self.now.regime).judged self.now.standing.status 0 sample.tally self.now.standing.carried) self.now.standing earlier.now }
     {
         let (entry, carried) = self.judged(Kind::Portion, 0, sample);
         let standing = Standing {
             period: one_more(self.standing.period),
-            ..self.after_article(before, entry.verdict, carried)
+            ..self.after_article(earlier, entry.verdict, carried)
         };
         written(entry, standing)
     }
@@ -298,32 +302,47 @@ where
         Ok(())
     }
 
-    pub(crate) fn lot_taken(&self, before: u32, size: u32, sample: Sample) -> Taken<R::Carried>
-        ensures { result ≡ lot_taken_at (R.Regime.rules self.now.regime) before size sample.units sample.tally self.now.standing (take before (B.Book.entries self.now.book)) }
+    pub(crate) fn lot_taken(
+        &self,
+        earlier: &Earlier<'_, B>,
+        size: u32,
+        sample: Sample,
+    ) -> Taken<R::Carried>
+        ensures { result ≡ lot_taken_at (R.Regime.rules self.now.regime) size sample.units sample.tally self.now.standing earlier.now }
     {
         let (entry, carried) = self.judged(Kind::Lot, size, sample);
         if entry.verdict == Verdict::Awaited {
-            return self.lot_awaited(before, carried, entry);
+            return self.lot_awaited(earlier, carried, entry);
         }
-        self.lot_decided(before, carried, entry)
+        self.lot_decided(earlier, carried, entry)
     }
 
     // The lot is judged by the entry, and none waits after it.
-    fn lot_decided(&self, before: u32, carried: R::Carried, entry: Entry) -> Taken<R::Carried>
-        ensures { result ≡ lot_decided (R.Regime.rules self.now.regime) entry carried self.now.standing (take before (B.Book.entries self.now.book)) }
+    fn lot_decided(
+        &self,
+        earlier: &Earlier<'_, B>,
+        carried: R::Carried,
+        entry: Entry,
+    ) -> Taken<R::Carried>
+        ensures { result ≡ lot_decided (R.Regime.rules self.now.regime) entry carried self.now.standing earlier.now }
     {
         let standing = Standing {
             waiting: None,
-            ..self.after_article(before, entry.verdict, carried)
+            ..self.after_article(earlier, entry.verdict, carried)
         };
         written(entry, standing)
     }
 
     // The lot waits under the number of its entry, and its slip is out.
-    fn lot_awaited(&self, before: u32, carried: R::Carried, entry: Entry) -> Taken<R::Carried>
-        ensures { result ≡ lot_awaited (R.Regime.rules self.now.regime) before entry.lot_size carried (Some entry) self.now.standing }
+    fn lot_awaited(
+        &self,
+        earlier: &Earlier<'_, B>,
+        carried: R::Carried,
+        entry: Entry,
+    ) -> Taken<R::Carried>
+        ensures { result ≡ lot_awaited (R.Regime.rules self.now.regime) entry.lot_size carried (Some entry) self.now.standing earlier.now }
     {
-        let number = before.saturating_add(1);
+        let number = earlier.next_number();
         let size = entry.lot_size;
         let standing = Standing {
             waiting: Some(WaitingLot {
@@ -379,11 +398,11 @@ where
         self.next_units(self.waiting_size())
     }
 
-    pub(crate) fn second_taken(&self, before: u32, sample: Sample) -> Taken<R::Carried>
-        ensures { result ≡ second_taken_at (R.Regime.rules self.now.regime) sample.units sample.tally self.now.standing (take before (B.Book.entries self.now.book)) }
+    pub(crate) fn second_taken(&self, earlier: &Earlier<'_, B>, sample: Sample) -> Taken<R::Carried>
+        ensures { result ≡ second_taken_at (R.Regime.rules self.now.regime) sample.units sample.tally self.now.standing earlier.now }
     {
         let (entry, carried) = self.judged(Kind::SecondSample, self.waiting_size(), sample);
-        self.lot_decided(before, carried, entry)
+        self.lot_decided(earlier, carried, entry)
     }
 
     pub(crate) fn check_hand_in(&self, number: u32) -> Result<(), Refusal>
@@ -424,15 +443,15 @@ where
     }
 
     #[tactic(auto, using(crate::proofs::Noted::last_last))]
-    fn check_window(&self, before: u32) -> Result<(), Refusal>
-        ensures { result ≡ answered (seen_refusal (R.Regime.rules self.now.regime) (seen_of (in_window (R.Regime.rules self.now.regime) self.now.standing (take before (B.Book.entries self.now.book))))) }
+    fn check_window(&self, earlier: &Earlier<'_, B>) -> Result<(), Refusal>
+        ensures { result ≡ answered (seen_refusal (R.Regime.rules self.now.regime) (seen_of (in_window (R.Regime.rules self.now.regime) self.now.standing earlier.now))) }
     {
         let most = self.regime.window_length().min(self.standing.spell);
-        self.check_seen(Earlier::of(&self.book, before).look_back(most))
+        self.check_seen(earlier.look_back(most))
     }
 
-    pub(crate) fn check_relief(&self, before: u32, room: u32) -> Result<(), Refusal>
-        ensures { result ≡ checked (R.Regime.rules self.now.regime) grant_relief self.now.standing (take before (B.Book.entries self.now.book)) room }
+    pub(crate) fn check_relief(&self, earlier: &Earlier<'_, B>, room: u32) -> Result<(), Refusal>
+        ensures { result ≡ checked (R.Regime.rules self.now.regime) grant_relief self.now.standing earlier.now room }
     {
         self.check_sound()?;
         self.check_no_lot()?;
@@ -443,6 +462,6 @@ where
         if self.standing.spell < self.regime.window_length() {
             return Err(Refusal::SpellTooShort);
         }
-        self.check_window(before)
+        self.check_window(earlier)
     }
 }

@@ -18,8 +18,6 @@ use std::error::Error;
 use std::fmt;
 use texts::lines::{Item, Lines};
 
-const STATUSES: [Status; 3] = [Status::Normal, Status::Tightened, Status::Reduced];
-
 // Why there is no plan book.
 #[derive(Clone, Copy, Debug)]
 pub enum PlanError {

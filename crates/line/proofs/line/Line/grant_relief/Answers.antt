@@ -12,11 +12,9 @@ pub returns-in_err-check_relief : goal.returns-in_err-check_relief
 returns-in_err-check_relief g c =
     let line = c.args.self.now in
     let rules = g.R.Regime.rules line.regime in
-    let left = c.room_left.result in
-    let es = g.B.Book.entries line.book in
-    let whole : take c.count.result es ≡ es = take_all c.count.result es (omega (arith, c.count.ensures)) in
-    check_does g.B.Book.entries g.B.Book.room line rules grant_relief left c.in_err-check_relief.field-0.0 c.from_residual.result c.from_residual.ensures.1 c.room_left.ensures (c.in_err-check_relief.ensures ∙ ap (λ l. answered (refuses rules sheet_score grant_relief line.standing l left)) whole)
+    let left = c.room_left-room.result in
+    check_does g.B.Book.entries g.B.Book.room line rules grant_relief left c.in_err-check_relief.field-0.0 c.from_residual.result c.from_residual.ensures.1 c.room_left-room.ensures (c.in_err-check_relief.ensures ∙ ap (λ l. answered (refuses rules sheet_score grant_relief line.standing l left)) c.whole.ensures)
 
 pub returns : goal.returns
 returns g c =
-    relief_does g.B.Book.entries g.B.Book.room (g.R.Regime.rules c.args.self.now.regime) c.args.self.now c.settle.new.self c.relief_taken-taken.result c.settle.result c.settle.ensures c.room_left.result c.room_left.ensures c.count.result c.count.ensures c.in_ok-check_relief.ensures c.relief_taken-taken.ensures
+    relief_does g.B.Book.entries g.B.Book.room (g.R.Regime.rules c.args.self.now.regime) c.args.self.now c.settle.new.self c.relief_taken-taken.result c.settle.result c.settle.ensures c.room_left-room.result c.room_left-room.ensures c.whole.result c.whole.ensures c.in_ok-check_relief.ensures c.relief_taken-taken.ensures

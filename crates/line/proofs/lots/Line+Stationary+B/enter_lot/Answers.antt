@@ -32,7 +32,7 @@ returns-in_err-reply g c =
     let answer = c.from_residual-in_err-reply in
     record {
       call = subst (λ a. Does g.B.Book.entries g.B.Book.room (step (plan_rules plan) sheet_score (enter_lot c.args.size sheet)) line a after) (sym (failed_with x (lot_answer answer.result) (lot_failed _ answer.result answer.ensures.1)))
-          (lot_comes g.B.Book.entries g.B.Book.room (plan_rules plan) (writes_writable.1 plan) line after c.lot_taken-taken.result (Err x) c.in_err-reply.ensures sheet c.count.result c.count.ensures c.room_left.result c.room_left.ensures c.in_ok-units.units c.in_ok-tally.tally c.in_ok-tally.ensures.answer c.args.size tt (g.B.Book.few line.book) c.in_ok-units.ensures c.lot_taken-taken.ensures);
+          (lot_comes g.B.Book.entries g.B.Book.room (plan_rules plan) (writes_writable.1 plan) line after c.lot_taken-taken.result (Err x) c.in_err-reply.ensures sheet c.whole.result c.whole.ensures c.room_left.result c.room_left.ensures c.in_ok-units.units c.in_ok-tally.tally c.in_ok-tally.ensures.answer c.args.size tt c.in_ok-units.ensures c.lot_taken-taken.ensures);
       slip = none_given _ answer.result answer.ensures.1;
     }
 
@@ -40,4 +40,4 @@ pub returns-clause-call : goal.returns-clause-call
 returns-clause-call g c =
     let line = c.args.self.now in
     let plan = line.regime.plan in
-    lot_comes g.B.Book.entries g.B.Book.room (plan_rules plan) (writes_writable.1 plan) line c.settle.new.self c.lot_taken-taken.result _ c.in_ok-reply.ensures c.args.sheet.now c.count.result c.count.ensures c.room_left.result c.room_left.ensures c.in_ok-units.units c.in_ok-tally.tally c.in_ok-tally.ensures.answer c.args.size tt (g.B.Book.few line.book) c.in_ok-units.ensures c.lot_taken-taken.ensures
+    lot_comes g.B.Book.entries g.B.Book.room (plan_rules plan) (writes_writable.1 plan) line c.settle.new.self c.lot_taken-taken.result _ c.in_ok-reply.ensures c.args.sheet.now c.whole.result c.whole.ensures c.room_left.result c.room_left.ensures c.in_ok-units.units c.in_ok-tally.tally c.in_ok-tally.ensures.answer c.args.size tt c.in_ok-units.ensures c.lot_taken-taken.ensures

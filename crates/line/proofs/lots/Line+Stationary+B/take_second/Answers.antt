@@ -26,4 +26,4 @@ pub returns : goal.returns
 returns g c =
     let line = c.args.self.now in
     let plan = line.regime.plan in
-    second_comes g.B.Book.entries g.B.Book.room (plan_rules plan) (writes_writable.1 plan) line c.settle.new.self c.second_taken-taken.result c.settle.result c.settle.ensures c.args.sheet.now c.count.result c.count.ensures c.room_left.result c.room_left.ensures c.in_ok-units.units c.in_ok-tally.tally c.in_ok-tally.ensures.answer c.args.number tt c.in_ok-units.ensures c.second_taken-taken.ensures
+    second_comes g.B.Book.entries g.B.Book.room (plan_rules plan) (writes_writable.1 plan) line c.settle.new.self c.second_taken-taken.result c.settle.result c.settle.ensures c.args.sheet.now c.whole.result c.whole.ensures c.room_left.result c.room_left.ensures c.in_ok-units.units c.in_ok-tally.tally c.in_ok-tally.ensures.answer c.args.number tt c.in_ok-units.ensures c.second_taken-taken.ensures

@@ -15,4 +15,4 @@ returns-in_err-units g c =
 pub returns : goal.returns
 returns g c =
     let line = c.args.self.now in
-    portion_comes g.B.Book.entries g.B.Book.room on_line_rules writes_writable.0 line c.settle.new.self c.portion_taken-taken.result c.settle.result c.settle.ensures c.args.sheet.now c.count.result c.count.ensures c.room_left.result c.room_left.ensures c.in_ok-units.units c.in_ok-tally.tally c.in_ok-tally.ensures.answer tt c.in_ok-units.ensures c.portion_taken-taken.ensures
+    portion_comes g.B.Book.entries g.B.Book.room on_line_rules writes_writable.0 line c.settle.new.self c.portion_taken-taken.result c.settle.result c.settle.ensures c.args.sheet.now c.whole.result c.whole.ensures c.room_left.result c.room_left.ensures c.in_ok-units.units c.in_ok-tally.tally c.in_ok-tally.ensures.answer tt c.in_ok-units.ensures c.portion_taken-taken.ensures
