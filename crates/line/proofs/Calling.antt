@@ -1,7 +1,6 @@
 -- A call that is not refused has room and a writable entry, so that the book takes it and the call comes to what it is defined to.
-use Rattle.std.proofs.Common.{◌≡◌, ℕ, ◌<◌, Bool, true, false, cond, not, eqb, leb, List, [], length, take, is_some, Some, None, Ok, Option, Result, sym, refl, ap, ◌∙◌, subst, arith}
+use Rattle.std.proofs.Common.{◌≡◌, ℕ, ◌<◌, Bool, true, false, cond, not, eqb, leb, List, [], is_some, Some, None, Ok, Option, Result, sym, refl, ap, ◌∙◌, subst, arith}
 use Rattle.std.proofs.lemmas.Bool.{leb-false, ne_eqb}
-use Rattle.std.proofs.lemmas.List.{take_all}
 use Rattle.books.specs.Books.{refusal, answered}
 use Rattle.inspection.specs.declared.refusal.Refusal.{Refusal}
 use Rattle.inspection.specs.declared.refusal.Refusal.TheVariants.{PeriodOpenAlready, NoPeriodOpen, LotAwaits, NoRoom, EntryUnwritable, BookUnsound}

@@ -1,18 +1,18 @@
 -- What a call with a sheet comes to again, by the units of its sample.
-use Rattle.std.proofs.Common.{◌≡◌, ℕ, ◌*◌, ◌≤◌, Bool, true, false, cond, not, leb, List, [], ◌∷◌, length, is_some, Some, None, Ok, Err, Option, Result, refl, ap, ◌∙◌, arith}
+use Rattle.std.proofs.Common.{◌≡◌, ℕ, ◌*◌, Bool, true, false, cond, not, leb, List, [], ◌∷◌, is_some, Some, None, Ok, Err, Option, Result, refl, ap, ◌∙◌, arith}
 use Rattle.std.specs.Result.{result_ok}
 use Rattle.inspection.specs.declared.refusal.Refusal.{Refusal}
-use Rattle.inspection.specs.declared.refusal.Refusal.TheVariants.{LotAwaits, NoLotAwaits, NoRoom, LotSizeOutOfRange, BookUnsound, SheetLineNotOfForm}
+use Rattle.inspection.specs.declared.refusal.Refusal.TheVariants.{LotAwaits, NoRoom, LotSizeOutOfRange, BookUnsound, SheetLineNotOfForm}
 use Rattle.inspection.specs.declared.tally.Tally.{Tally}
 use Rattle.inspection.specs.Tallies.{total_of}
 use Rattle.entries.specs.declared.entry.Entry.{Entry}
 use Rattle.regimes.specs.Rules.{Rules}
 use Rattle.runs.specs.declared.standing.Standing.{Standing}
 use Rattle.runs.specs.declared.standing.Taken.{Taken}
-use Rattle.runs.specs.History.{first, fault, scored, enter_lot, enter_second}
-use Rattle.runs.specs.Lines.{lot_taken, sample, or_zero, second_taken, due_size, due_number, has_slip, reading}
+use Rattle.runs.specs.History.{first, fault, scored, enter_lot}
+use Rattle.runs.specs.Lines.{lot_taken, sample, or_zero}
 use Rattle.runs.specs.Runs.{showing}
-use Rattle.line.specs.Doing.{units_unless, lot_sample, lot_taken_at, second_sample}
+use Rattle.line.specs.Doing.{units_unless, lot_sample, lot_taken_at}
 use Rattle.line.specs.declared.sample.Sample.{Sample}
 use Rattle.line.proofs.Sheets.{lot_same}
 use Rattle.line.specs.Replaying.{sample_showing, taken_unless, retaken_by}

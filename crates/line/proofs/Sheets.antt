@@ -1,10 +1,8 @@
 -- Calls with a sheet: the tests before the sheet, then the sheet's own fault.
-use Rattle.std.proofs.Common.{◌≡◌, ℕ, ◌+◌, ◌≤◌, Bool, true, false, not, leb, List, [], ◌∷◌, length, take, is_some, Some, None, Ok, Err, Option, Result, sym, refl, ap, ◌∙◌, arith}
-use Rattle.std.proofs.lemmas.List.{take_all}
+use Rattle.std.proofs.Common.{◌≡◌, ℕ, Bool, true, false, not, leb, List, [], ◌∷◌, is_some, Some, None, Ok, Err, Option, Result, sym, refl, ap, ◌∙◌, arith}
 use Rattle.inspection.specs.declared.refusal.Refusal.{Refusal}
 use Rattle.inspection.specs.declared.refusal.Refusal.TheVariants.{NoPeriodOpen, LotAwaits, NoLotAwaits, LotSizeOutOfRange, NoRoom, BookUnsound}
 use Rattle.inspection.specs.declared.tally.Tally.{Tally}
-use Rattle.inspection.specs.declared.kind.Kind.TheVariants as kind
 use Rattle.inspection.specs.declared.verdict.Verdict.{Verdict}
 use Rattle.inspection.specs.declared.verdict.Verdict.TheVariants.{Accepted, Rejected, Awaited, Full, Brief, Undecided}
 use Rattle.entries.specs.declared.entry.Entry.{Entry}
@@ -14,7 +12,7 @@ use Rattle.runs.specs.declared.standing.Reply.{Reply}
 use Rattle.runs.specs.declared.standing.Standing.{Standing}
 use Rattle.runs.specs.declared.standing.Taken.{Taken}
 use Rattle.runs.specs.History.{Call, enter_portion, enter_lot, enter_second, first, fault, scored}
-use Rattle.runs.specs.Lines.{told, counted_on, awaiting, reading, or_zero, due_size, has_slip, sample, refuses, takes, step, portion_taken, lot_taken, second_taken}
+use Rattle.runs.specs.Lines.{reading, or_zero, due_size, has_slip, sample, refuses, takes, step, portion_taken, lot_taken, second_taken}
 use Rattle.runs.specs.Runs.{Served}
 use Rattle.runs.specs.Writing.{sheet_score, WritesOnlyWritable}
 use Rattle.line.specs.declared.line.Line.{Line}

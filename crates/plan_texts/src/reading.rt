@@ -89,7 +89,7 @@ fn rows_of_kept(lots: &[LotRow], status: Status) -> bool
 fn lots_kept(lots: &[LotRow]) -> bool
     ensures { result ≡ each_status (λ status. between 32 (rows_of status lots.now)) }
 {
-    STATUSES.iter().all(|status| rows_of_kept(lots, *status))
+    Status::ALL.iter().all(|status| rows_of_kept(lots, *status))
 }
 
 // 1 to 32 lot rows for each status, and 1 to 16 limit rows.

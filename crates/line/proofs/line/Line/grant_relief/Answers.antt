@@ -1,5 +1,4 @@
-use Rattle.std.proofs.Common.{◌≡◌, take, ap, ◌∙◌, arith}
-use Rattle.std.proofs.lemmas.List.{take_all}
+use Rattle.std.proofs.Common.{ap, ◌∙◌}
 use Rattle.books.specs.Books.{answered}
 use Rattle.runs.specs.History.{grant_relief}
 use Rattle.runs.specs.Lines.{refuses}

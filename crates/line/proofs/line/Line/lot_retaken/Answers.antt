@@ -1,5 +1,3 @@
-use Rattle.std.proofs.Common.{take, arith}
-use Rattle.std.proofs.lemmas.List.{length-take-le}
 use Rattle.line.proofs.Retaking.{lot_again}
 use Rattle.line.proofs.line.Line.lot_retaken.Goals as goal
 

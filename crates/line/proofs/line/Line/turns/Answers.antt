@@ -1,4 +1,4 @@
-use Rattle.std.proofs.Common.{◌≡◌, false, ◌&&◌, eqb, leb, take, sym, ap, ◌∙◌, rules, arith}
+use Rattle.std.proofs.Common.{◌≡◌, false, ◌&&◌, eqb, leb, sym, ap, ◌∙◌, rules, arith}
 use Rattle.std.proofs.lemmas.Bool.{le-leb, lt-leb}
 use Rattle.runs.specs.History.{is_rejected}
 use Rattle.line.proofs.Breaking.{breaks_normal, breaks_tightened, breaks_reduced}
