@@ -7,137 +7,137 @@ use std::test::Fail;
 use worksheet::defect::Defect;
 use worksheet::scoring::{read, score};
 
-// A sheet, the units of its sample, and its critical, major and minor defects.
-struct Scores {
+// A sheet, the units of its sample, and what it scores or is refused with.
+struct Case<T> {
     sheet: &'static [u8],
     units: u32,
-    tally: Tally,
+    answer: T,
 }
 
-const SCORED: [Scores; 14] = [
-    Scores {
+const SCORED: [Case<Tally>; 14] = [
+    Case {
         sheet: b"",
         units: 25,
-        tally: Tally {
+        answer: Tally {
             critical: 0,
             major: 0,
             minor: 0,
         },
     },
-    Scores {
+    Case {
         sheet: b"",
         units: 0,
-        tally: Tally {
+        answer: Tally {
             critical: 0,
             major: 0,
             minor: 0,
         },
     },
-    Scores {
+    Case {
         sheet: b"3\t1\tM\n",
         units: 25,
-        tally: Tally {
+        answer: Tally {
             critical: 0,
             major: 1,
             minor: 0,
         },
     },
-    Scores {
+    Case {
         sheet: b"25\t9\tC\n",
         units: 25,
-        tally: Tally {
+        answer: Tally {
             critical: 1,
             major: 0,
             minor: 0,
         },
     },
-    Scores {
+    Case {
         sheet: b"9999\t1\tN\n",
         units: 9999,
-        tally: Tally {
+        answer: Tally {
             critical: 0,
             major: 0,
             minor: 1,
         },
     },
     // Related defects score once, as the most serious, in every order of their classes.
-    Scores {
+    Case {
         sheet: b"3\t1\tC\n3\t1\tM\n3\t1\tN\n",
         units: 25,
-        tally: Tally {
+        answer: Tally {
             critical: 1,
             major: 0,
             minor: 0,
         },
     },
-    Scores {
+    Case {
         sheet: b"3\t1\tM\n3\t1\tN\n3\t1\tC\n",
         units: 25,
-        tally: Tally {
+        answer: Tally {
             critical: 1,
             major: 0,
             minor: 0,
         },
     },
-    Scores {
+    Case {
         sheet: b"3\t1\tN\n3\t1\tC\n3\t1\tM\n",
         units: 25,
-        tally: Tally {
+        answer: Tally {
             critical: 1,
             major: 0,
             minor: 0,
         },
     },
-    Scores {
+    Case {
         sheet: b"3\t1\tN\n3\t1\tM\n",
         units: 25,
-        tally: Tally {
+        answer: Tally {
             critical: 0,
             major: 1,
             minor: 0,
         },
     },
-    Scores {
+    Case {
         sheet: b"3\t1\tM\n3\t1\tN\n",
         units: 25,
-        tally: Tally {
+        answer: Tally {
             critical: 0,
             major: 1,
             minor: 0,
         },
     },
-    Scores {
+    Case {
         sheet: b"3\t1\tN\n3\t1\tN\n",
         units: 25,
-        tally: Tally {
+        answer: Tally {
             critical: 0,
             major: 0,
             minor: 1,
         },
     },
     // Equal units with rising causes, and equal causes with rising units, are different pairs.
-    Scores {
+    Case {
         sheet: b"3\t1\tM\n3\t2\tN\n3\t9\tC\n",
         units: 25,
-        tally: Tally {
+        answer: Tally {
             critical: 1,
             major: 1,
             minor: 1,
         },
     },
-    Scores {
+    Case {
         sheet: b"1\t9\tM\n2\t1\tM\n10\t1\tM\n",
         units: 25,
-        tally: Tally {
+        answer: Tally {
             critical: 0,
             major: 3,
             minor: 0,
         },
     },
-    Scores {
+    Case {
         sheet: b"1\t1\tN\n1\t1\tN\n2\t2\tC\n2\t2\tM\n2\t3\tM\n",
         units: 2,
-        tally: Tally {
+        answer: Tally {
             critical: 1,
             major: 1,
             minor: 1,
@@ -148,206 +148,200 @@ const SCORED: [Scores; 14] = [
 #[test]
 fn sheets_score(rt: HostRuntime) {
     for case in &SCORED {
-        assert_eq!(rt; score(case.sheet, case.units), Ok(case.tally));
+        assert_eq!(rt; score(case.sheet, case.units), Ok(case.answer));
     }
 }
 
-struct Refuses {
-    sheet: &'static [u8],
-    units: u32,
-    refusal: Refusal,
-}
-
-const REFUSED: [Refuses; 36] = [
-    Refuses {
+const REFUSED: [Case<Refusal>; 36] = [
+    Case {
         sheet: b"\n",
         units: 25,
-        refusal: Refusal::SheetLineNotOfForm { line: 1 },
+        answer: Refusal::SheetLineNotOfForm { line: 1 },
     },
-    Refuses {
+    Case {
         sheet: b"3\t1\tM",
         units: 25,
-        refusal: Refusal::SheetLineNotOfForm { line: 1 },
+        answer: Refusal::SheetLineNotOfForm { line: 1 },
     },
-    Refuses {
+    Case {
         sheet: b"3\t1\tM\n4\t1\tM",
         units: 25,
-        refusal: Refusal::SheetLineNotOfForm { line: 2 },
+        answer: Refusal::SheetLineNotOfForm { line: 2 },
     },
-    Refuses {
+    Case {
         sheet: b"3\t1\tM\n\n",
         units: 25,
-        refusal: Refusal::SheetLineNotOfForm { line: 2 },
+        answer: Refusal::SheetLineNotOfForm { line: 2 },
     },
-    Refuses {
+    Case {
         sheet: b"3\t1\tM\r\n",
         units: 25,
-        refusal: Refusal::SheetLineNotOfForm { line: 1 },
+        answer: Refusal::SheetLineNotOfForm { line: 1 },
     },
-    Refuses {
+    Case {
         sheet: b"3\t1\tM\n3\t2\tM\r\n",
         units: 25,
-        refusal: Refusal::SheetLineNotOfForm { line: 2 },
+        answer: Refusal::SheetLineNotOfForm { line: 2 },
     },
-    Refuses {
+    Case {
         sheet: b"3\t1\t\0\n",
         units: 25,
-        refusal: Refusal::SheetLineNotOfForm { line: 1 },
+        answer: Refusal::SheetLineNotOfForm { line: 1 },
     },
-    Refuses {
+    Case {
         sheet: b"\0",
         units: 25,
-        refusal: Refusal::SheetLineNotOfForm { line: 1 },
+        answer: Refusal::SheetLineNotOfForm { line: 1 },
     },
-    Refuses {
+    Case {
         sheet: b"3\0\t1\tM\n",
         units: 25,
-        refusal: Refusal::SheetLineNotOfForm { line: 1 },
+        answer: Refusal::SheetLineNotOfForm { line: 1 },
     },
-    Refuses {
+    Case {
         sheet: b"3\t1\tM\n\0\n",
         units: 25,
-        refusal: Refusal::SheetLineNotOfForm { line: 2 },
+        answer: Refusal::SheetLineNotOfForm { line: 2 },
     },
-    Refuses {
+    Case {
         sheet: b"31\tM\n",
         units: 25,
-        refusal: Refusal::SheetLineNotOfForm { line: 1 },
+        answer: Refusal::SheetLineNotOfForm { line: 1 },
     },
-    Refuses {
+    Case {
         sheet: b"3\t1M\n",
         units: 25,
-        refusal: Refusal::SheetLineNotOfForm { line: 1 },
+        answer: Refusal::SheetLineNotOfForm { line: 1 },
     },
-    Refuses {
+    Case {
         sheet: b"31M\n",
         units: 25,
-        refusal: Refusal::SheetLineNotOfForm { line: 1 },
+        answer: Refusal::SheetLineNotOfForm { line: 1 },
     },
-    Refuses {
+    Case {
         sheet: b"3\t0\tM\n",
         units: 25,
-        refusal: Refusal::SheetLineNotOfForm { line: 1 },
+        answer: Refusal::SheetLineNotOfForm { line: 1 },
     },
-    Refuses {
+    Case {
         sheet: b"3\t10\tM\n",
         units: 25,
-        refusal: Refusal::SheetLineNotOfForm { line: 1 },
+        answer: Refusal::SheetLineNotOfForm { line: 1 },
     },
-    Refuses {
+    Case {
         sheet: b"0\t1\tM\n",
         units: 25,
-        refusal: Refusal::SheetLineNotOfForm { line: 1 },
+        answer: Refusal::SheetLineNotOfForm { line: 1 },
     },
-    Refuses {
+    Case {
         sheet: b"03\t1\tM\n",
         units: 25,
-        refusal: Refusal::SheetLineNotOfForm { line: 1 },
+        answer: Refusal::SheetLineNotOfForm { line: 1 },
     },
-    Refuses {
+    Case {
         sheet: b"10000\t1\tM\n",
         units: 10000,
-        refusal: Refusal::SheetLineNotOfForm { line: 1 },
+        answer: Refusal::SheetLineNotOfForm { line: 1 },
     },
-    Refuses {
+    Case {
         sheet: b"\t1\tM\n",
         units: 25,
-        refusal: Refusal::SheetLineNotOfForm { line: 1 },
+        answer: Refusal::SheetLineNotOfForm { line: 1 },
     },
-    Refuses {
+    Case {
         sheet: b"3\t\tM\n",
         units: 25,
-        refusal: Refusal::SheetLineNotOfForm { line: 1 },
+        answer: Refusal::SheetLineNotOfForm { line: 1 },
     },
-    Refuses {
+    Case {
         sheet: b"3\t1\t\n",
         units: 25,
-        refusal: Refusal::SheetLineNotOfForm { line: 1 },
+        answer: Refusal::SheetLineNotOfForm { line: 1 },
     },
-    Refuses {
+    Case {
         sheet: b"3\t1\tm\n",
         units: 25,
-        refusal: Refusal::SheetLineNotOfForm { line: 1 },
+        answer: Refusal::SheetLineNotOfForm { line: 1 },
     },
-    Refuses {
+    Case {
         sheet: b"3\t1\tX\n",
         units: 25,
-        refusal: Refusal::SheetLineNotOfForm { line: 1 },
+        answer: Refusal::SheetLineNotOfForm { line: 1 },
     },
-    Refuses {
+    Case {
         sheet: b" 3\t1\tM\n",
         units: 25,
-        refusal: Refusal::SheetLineNotOfForm { line: 1 },
+        answer: Refusal::SheetLineNotOfForm { line: 1 },
     },
-    Refuses {
+    Case {
         sheet: b"+3\t1\tM\n",
         units: 25,
-        refusal: Refusal::SheetLineNotOfForm { line: 1 },
+        answer: Refusal::SheetLineNotOfForm { line: 1 },
     },
-    Refuses {
+    Case {
         sheet: b"3\t1\tM \n",
         units: 25,
-        refusal: Refusal::SheetLineNotOfForm { line: 1 },
+        answer: Refusal::SheetLineNotOfForm { line: 1 },
     },
-    Refuses {
+    Case {
         sheet: b"3\t1\tM\t\n",
         units: 25,
-        refusal: Refusal::SheetLineNotOfForm { line: 1 },
+        answer: Refusal::SheetLineNotOfForm { line: 1 },
     },
-    Refuses {
+    Case {
         sheet: b"\xff\xfe\t1\tM\n",
         units: 25,
-        refusal: Refusal::SheetLineNotOfForm { line: 1 },
+        answer: Refusal::SheetLineNotOfForm { line: 1 },
     },
     // The unit above the sample.
-    Refuses {
+    Case {
         sheet: b"26\t1\tM\n",
         units: 25,
-        refusal: Refusal::UnitAboveSample { line: 1 },
+        answer: Refusal::UnitAboveSample { line: 1 },
     },
-    Refuses {
+    Case {
         sheet: b"1\t1\tM\n",
         units: 0,
-        refusal: Refusal::UnitAboveSample { line: 1 },
+        answer: Refusal::UnitAboveSample { line: 1 },
     },
-    Refuses {
+    Case {
         sheet: b"9999\t1\tN\n",
         units: 9998,
-        refusal: Refusal::UnitAboveSample { line: 1 },
+        answer: Refusal::UnitAboveSample { line: 1 },
     },
     // A falling pair, the unit compared first.
-    Refuses {
+    Case {
         sheet: b"3\t1\tM\n2\t9\tM\n",
         units: 25,
-        refusal: Refusal::PairFalls { line: 2 },
+        answer: Refusal::PairFalls { line: 2 },
     },
-    Refuses {
+    Case {
         sheet: b"3\t2\tM\n3\t1\tM\n",
         units: 25,
-        refusal: Refusal::PairFalls { line: 2 },
+        answer: Refusal::PairFalls { line: 2 },
     },
-    Refuses {
+    Case {
         sheet: b"1\t1\tN\n3\t2\tM\n3\t2\tM\n3\t1\tM\n",
         units: 25,
-        refusal: Refusal::PairFalls { line: 4 },
+        answer: Refusal::PairFalls { line: 4 },
     },
     // On one line the lowest number, and over the sheet the first bad line.
-    Refuses {
+    Case {
         sheet: b"30\t2\tM\n29\t1\tM\n",
         units: 25,
-        refusal: Refusal::UnitAboveSample { line: 1 },
+        answer: Refusal::UnitAboveSample { line: 1 },
     },
-    Refuses {
+    Case {
         sheet: b"3\t2\tM\n3\t1\tM\n26\t1\tM\nx\n",
         units: 25,
-        refusal: Refusal::PairFalls { line: 2 },
+        answer: Refusal::PairFalls { line: 2 },
     },
 ];
 
 #[test]
 fn first_bad_lines_are_named(rt: HostRuntime) {
     for case in &REFUSED {
-        assert_eq!(rt; score(case.sheet, case.units), Err(case.refusal));
+        assert_eq!(rt; score(case.sheet, case.units), Err(case.answer));
     }
 }
 
