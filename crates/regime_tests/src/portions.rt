@@ -50,6 +50,26 @@ fn stretches_go_by_the_values_reckoned_by_hand(rt: HostRuntime) {
     goes_by(&rt, Status::Reduced, &on_reduced);
 }
 
+// The verdicts are those of an independent reading of the rules, in another language; the values were reckoned by hand.
+#[test]
+fn a_stretch_on_tightened_is_judged_as_an_independent_reading_has_it(rt: HostRuntime) {
+    // From 30, 40 and 100 on.
+    let on_tightened = [
+        (tally(0, 3, 0), Verdict::Rejected, per_class(20, 160, 150)),
+        (tally(0, 0, 2), Verdict::Accepted, per_class(10, 80, 100)),
+        (tally(0, 2, 0), Verdict::Rejected, per_class(0, 160, 50)),
+        (tally(0, 0, 0), Verdict::Accepted, per_class(0, 80, 0)),
+        (tally(0, 0, 0), Verdict::Accepted, per_class(0, 0, 0)),
+        (tally(0, 0, 0), Verdict::Accepted, per_class(0, 0, 0)),
+        (tally(0, 0, 0), Verdict::Accepted, per_class(0, 0, 0)),
+        (tally(2, 0, 0), Verdict::Rejected, per_class(90, 0, 0)),
+        (tally(1, 0, 0), Verdict::Rejected, per_class(90, 0, 0)),
+        (tally(0, 0, 0), Verdict::Accepted, per_class(80, 0, 0)),
+        (tally(0, 3, 0), Verdict::Rejected, per_class(70, 160, 50)),
+    ];
+    goes_by(&rt, Status::Tightened, &on_tightened);
+}
+
 // The largest count of each kind that a first portion is accepted with; one more rejects it.
 #[test]
 fn a_first_portion_is_accepted_up_to_its_edge(rt: HostRuntime) {
