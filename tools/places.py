@@ -57,6 +57,13 @@ def functions(text):
         yield found.group(2), found.group(3), found.group(4)
 
 
+def print_twins(kind, alike):
+    twins = [places for places in alike.values() if len(places) > 1]
+    print(f"2: {kind}: {sum(map(len, twins))} in {len(twins)} groups")
+    for places in twins:
+        print("    " + "; ".join(places))
+
+
 def main():
     commit = sys.argv[1] if len(sys.argv) > 1 else None
     tree = list(files(commit))
@@ -75,19 +82,13 @@ def main():
             shape = re.sub(r"\b(?!if|else|for|in|match|let|return|self|mut)[a-z_]\w*\b", "x", shape)
             if len(shape) > 60:
                 shapes[shape].append(f"{name}: {function}")
-    twins = [places for places in shapes.values() if len(places) > 1]
-    print(f"2: bodies of one shape: {sum(map(len, twins))} in {len(twins)} groups")
-    for places in twins:
-        print("    " + "; ".join(places))
+    print_twins("bodies of one shape", shapes)
     names = collections.defaultdict(list)
     for name, text in tree:
         for found in re.finditer(r"^(?:pub(?:\(crate\))? )?(?:struct|enum) (\w+)[^{;]*\{(.*?)^\}", text, re.S | re.M):
             fields = re.sub(r"\b(u8|u16|u32|u64|usize)\b", "int", re.sub(r"//.*|pub(\(crate\))? |\s+", "", found.group(2)))
             names[fields].append(f"{name}: {found.group(1)}")
-    twins = [places for places in names.values() if len(places) > 1]
-    print(f"2: types of the same fields: {sum(map(len, twins))} in {len(twins)} groups")
-    for places in twins:
-        print("    " + "; ".join(places))
+    print_twins("types of the same fields", names)
     # facts that stand in three or more contracts
     clauses = collections.defaultdict(list)
     together = collections.defaultdict(list)
