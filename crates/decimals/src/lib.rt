@@ -5,28 +5,31 @@ ghost use Rattle.std.specs.Prelude.{◌≡◌, length};
 ghost use Rattle.std.specs.Option.{option_map};
 ghost use Rattle.decimals.specs.Digits.{numeral, number as plain_number, clipped, all_read, led, padded, WrittenBack, ReadBack};
 
-// The number that the bytes write, where each is a digit; one that does not fit is read as the largest that does.
-fn read_all(digits: &[u8]) -> Option<u32>
-    ensures { result ≡ all_read digits.now }
-{
-    let mut number = 0u32;
-    for digit in digits {
-        number = number
-            .saturating_mul(10)
-            .saturating_add(char::from(*digit).to_digit(10)?);
-    }
-    Some(number)
-}
-
 // The number that one to nine digits write; no other bytes write one.
-#[tactic(auto, using(crate::proofs::Reading::nine_fit), unfolding(crate::specs::Digits::numeral))]
 pub fn read_digits(digits: &[u8]) -> Option<u32>
     ensures { result ≡ numeral digits.now }
 {
     if digits.is_empty() || digits.len() > 9 {
         return None;
     }
-    read_all(digits)
+    let mut number = 0u32;
+    for digit in digits {
+        number = number * 10 + char::from(*digit).to_digit(10)?;
+    }
+    Some(number)
+}
+
+// The number that the bytes write, where each is a digit; one that does not fit is read as the largest that does.
+fn read_all(digits: &[u8]) -> Option<u32>
+    ensures { result ≡ all_read digits.now }
+{
+    let mut value = 0u32;
+    for digit in digits {
+        value = value
+            .saturating_mul(10)
+            .saturating_add(char::from(*digit).to_digit(10)?);
+    }
+    Some(value)
 }
 
 // There is a first digit, and it is no zero with others after it.

@@ -45,8 +45,8 @@ fn the_fresh_plan_has_limits_from_one_unit_on(rt: HostRuntime) -> Result<(), Fai
             total: 0,
         },
     };
-    assert_eq!(rt; plan.relief_limits(0u32), None);
-    assert_eq!(rt; plan.relief_limits(1u32), Some(none));
-    assert_eq!(rt; plan.relief_limits(20_000u32), Some(none));
+    assert_eq!(rt; plan.relief_limits(0), None);
+    assert_eq!(rt; plan.relief_limits(1), Some(none));
+    assert_eq!(rt; plan.relief_limits(20_000), Some(none));
     Ok(())
 }

@@ -359,12 +359,12 @@ fn a_plan_holds_the_rows_of_its_text(rt: HostRuntime) -> Result<(), Fail> {
         },
     };
     assert_eq!(rt; plan.limits()[1], limits);
-    assert_eq!(rt; plan.relief_limits(20u32), Some(limits));
-    assert_eq!(rt; plan.relief_limits(19u32), Some(plan.limits()[0]));
-    assert_eq!(rt; plan.relief_limits(9u32), None);
-    assert_eq!(rt; plan.relief_limits(20u64), Some(limits));
-    assert_eq!(rt; plan.relief_limits(19u64), Some(plan.limits()[0]));
-    assert_eq!(rt; plan.relief_limits(9u64), None);
+    assert_eq!(rt; plan.relief_limits(20), Some(limits));
+    assert_eq!(rt; plan.relief_limits(19), Some(plan.limits()[0]));
+    assert_eq!(rt; plan.relief_limits(9), None);
+    assert_eq!(rt; plan.wide_relief_limits(20), Some(limits));
+    assert_eq!(rt; plan.wide_relief_limits(19), Some(plan.limits()[0]));
+    assert_eq!(rt; plan.wide_relief_limits(9), None);
     Ok(())
 }
 

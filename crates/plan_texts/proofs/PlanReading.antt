@@ -28,7 +28,7 @@ going_more lots limits last row p ps qs more further now split good says is fur 
     ap (going lots limits last) split ∙ (λ i. unless (option_or (bad i) (counted (lotsNow i) (limitsNow i))) (lotsNow i, limitsNow i))
 
 -- the last line is read
-going_end : (lots : List LotRow) (limits : List LimitRow) (last : Option Row) (qs : List Piece) → qs ≡ [] → going lots limits last qs ≡ unless (counted lots limits) (lots, limits)
+pub going_end : (lots : List LotRow) (limits : List LimitRow) (last : Option Row) (qs : List Piece) → qs ≡ [] → going lots limits last qs ≡ unless (counted lots limits) (lots, limits)
 going_end lots limits last qs none =
     ap (going lots limits last) none ∙ (λ i. unless (counted (append-nil lots i) (append-nil limits i)) (append-nil lots i, append-nil limits i))
 
@@ -70,7 +70,7 @@ kept_said last (p ∷ ps) e = by (row_of p) (λ o. kept_said o ps) e
     by (Some r) h e = by_tests r (row_kept r) refl (follows_after last r) refl e (h (Some r))
 
 -- the rows of a text that is taken keep all that is asked of a plan
-plan_keeps : (text : List ℕ) (lots : List LotRow) (limits : List LimitRow) → plan_of text ≡ Ok (lots, limits) → keeps lots limits ≡ true
+pub plan_keeps : (text : List ℕ) (lots : List LotRow) (limits : List LimitRow) → plan_of text ≡ Ok (lots, limits) → keeps lots limits ≡ true
 plan_keeps text lots limits e =
     by (first_bad None (pieces text)) refl (counts_kept (lots_said (pieces text)) (limits_said (pieces text))) refl e
   where

@@ -1,5 +1,5 @@
 // The fresh plan book, and what a plan book says of a lot.
-ghost use Rattle.std.specs.Prelude.{◌≡◌, ℕ, true, IfSome, IfOk};
+ghost use Rattle.std.specs.Prelude.{◌≡◌, true, IfSome, IfOk};
 ghost use Rattle.plans.specs.Finding.{row_fits, row_for, limits_fit, limits_for};
 ghost use Rattle.plans.specs.Fresh.{fresh_row, fresh_lots, fresh_limits};
 ghost use Rattle.plans.specs.Plans.{lot_row_kept};
@@ -96,11 +96,17 @@ impl PlanBook {
         found
     }
 
-    // The limits of relief for samples of so many units together.
-    pub fn relief_limits<U: Into<u64>>(&self, units: U) -> Option<LimitRow>
-        ensures { (n : ℕ) × U.converts units n × (result ≡ limits_for n self.now.limits.items) }
+    // The limits of relief for samples of so many units.
+    pub fn relief_limits(&self, units: u32) -> Option<LimitRow>
+        ensures { result ≡ limits_for units self.now.limits.items }
     {
-        let units = units.into();
+        self.wide_relief_limits(u64::from(units))
+    }
+
+    // The limits of relief where the units of many samples are counted together.
+    pub fn wide_relief_limits(&self, units: u64) -> Option<LimitRow>
+        ensures { result ≡ limits_for units self.now.limits.items }
+    {
         self.limits
             .iter()
             .rev()

@@ -46,7 +46,7 @@ fn window_cap_and_limits_of_lots(rt: HostRuntime) -> Result<(), Fail> {
     assert_eq!(rt; lots.relief_limits(0), None);
     assert_eq!(rt; lots.relief_limits(10), Some(per_class(0, 0, 0)));
     let plan = lots.into_plan();
-    assert!(rt; plan.relief_limits(1u32).is_some());
+    assert!(rt; plan.relief_limits(1).is_some());
     Ok(())
 }
 

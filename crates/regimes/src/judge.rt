@@ -32,12 +32,8 @@ pub trait Judge {
 
 // A judge with all else that a line asks of the rules that it works by.
 pub trait Regime: Judge {
-    ghost WINDOW: { ℕ };
-
     // Relief and reduced inspection look at so many articles,
     const WINDOW: u32;
-
-    ghost CAP: { ℕ };
 
     // of which so many may be rejected.
     const CAP: u32;
@@ -45,16 +41,10 @@ pub trait Regime: Judge {
     ghost rules: { Self → Rules Self.Carried };
 
     fn window_length(&self) -> u32
-        ensures { result ≡ (rules self.now).window }
-    {
-        Self::WINDOW
-    }
+        ensures { result ≡ (rules self.now).window };
 
     fn most_rejected(&self) -> u32
-        ensures { result ≡ (rules self.now).most_rejected }
-    {
-        Self::CAP
-    }
+        ensures { result ≡ (rules self.now).most_rejected };
 
     fn judges_portions(&self) -> bool
         ensures { result ≡ (rules self.now).portions };
@@ -80,10 +70,7 @@ pub trait Regime: Judge {
         carried: Self::Carried,
     ) -> (Verdict, Self::Carried)
         ensures judge { result ≡ Self.Judge.judged self.now status lot_size tally carried }
-        ensures rules { result ≡ (rules self.now).judged status lot_size tally carried }
-    {
-        self.judge(status, lot_size, tally, carried)
-    }
+        ensures rules { result ≡ (rules self.now).judged status lot_size tally carried };
 
     // The verdict on a stretch's first portion, or a lot's first sample.
     fn first_verdict(&self, status: Status, lot_size: u32, tally: Tally) -> Verdict
@@ -94,11 +81,4 @@ pub trait Regime: Judge {
         let (verdict, _carried) = self.judge(status, lot_size, tally, self.starting(status));
         verdict
     }
-
-    // The constants are those of the rules, and the judge goes by them.
-    ghost window_ruled: { (regime : Self) → WINDOW ≡ (rules regime).window };
-
-    ghost cap_ruled: { (regime : Self) → CAP ≡ (rules regime).most_rejected };
-
-    ghost judged_as_ruled: { (regime : Self) (s : Stage) (size : ℕ) (t : Counts) (carried : Self.Carried) → Self.Judge.judged regime s size t carried ≡ (rules regime).judged s size t carried };
 }

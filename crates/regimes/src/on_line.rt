@@ -1,5 +1,5 @@
 // The on-line regime: portions of production, judged by three running values.
-ghost use Rattle.std.specs.Prelude.{◌≡◌, refl};
+ghost use Rattle.std.specs.Prelude.{◌≡◌};
 ghost use Rattle.inspection.specs.Classes.{by_class, some_class};
 ghost use Rattle.regimes.specs.Portions.{value_reached, is_over, value_held, portion_judged, on_line_rules};
 ghost use Rattle.inspection.specs.declared.class.JudgedClass.TheVariants.{Critical, Major, Total};
@@ -102,15 +102,19 @@ impl Judge for OnLine {
 }
 
 impl Regime for OnLine {
-    ghost WINDOW = { 40 };
-
     const WINDOW: u32 = 40;
-
-    ghost CAP = { 1 };
 
     const CAP: u32 = 1;
 
     ghost rules = { λ _. on_line_rules };
+
+    fn window_length(&self) -> u32 {
+        Self::WINDOW
+    }
+
+    fn most_rejected(&self) -> u32 {
+        Self::CAP
+    }
 
     fn judges_portions(&self) -> bool {
         true
@@ -136,9 +140,13 @@ impl Regime for OnLine {
         })
     }
 
-    ghost window_ruled = { λ _. refl };
-
-    ghost cap_ruled = { λ _. refl };
-
-    ghost judged_as_ruled = { λ _ s size t carried. refl };
+    fn decide(
+        &self,
+        status: Status,
+        lot_size: u32,
+        tally: Tally,
+        carried: Values,
+    ) -> (Verdict, Values) {
+        self.judge(status, lot_size, tally, carried)
+    }
 }

@@ -1,5 +1,5 @@
 // The stationary regime: lots, judged by one or two samples and the rows of a plan book.
-ghost use Rattle.std.specs.Prelude.{◌≡◌, refl, true, IfSome};
+ghost use Rattle.std.specs.Prelude.{◌≡◌, true, IfSome};
 ghost use Rattle.plans.specs.Plans.{lot_row_kept};
 ghost use Rattle.inspection.specs.Classes.{count_of, each_class, some_class};
 ghost use Rattle.regimes.specs.Lots.{row_of_lot, added, accepts_first, rejects_first, accepts_both, first_judged, both_judged, stationary_rules};
@@ -123,15 +123,19 @@ impl Judge for Stationary {
 }
 
 impl Regime for Stationary {
-    ghost WINDOW = { 10 };
-
     const WINDOW: u32 = 10;
-
-    ghost CAP = { 0 };
 
     const CAP: u32 = 0;
 
     ghost rules = { λ b. stationary_rules b.plan.lots.items b.plan.limits.items };
+
+    fn window_length(&self) -> u32 {
+        Self::WINDOW
+    }
+
+    fn most_rejected(&self) -> u32 {
+        Self::CAP
+    }
 
     fn judges_portions(&self) -> bool {
         false
@@ -150,12 +154,16 @@ impl Regime for Stationary {
     }
 
     fn relief_limits(&self, units: u64) -> Option<Limits> {
-        self.plan.relief_limits(units).map(|row| row.limits)
+        self.plan.wide_relief_limits(units).map(|row| row.limits)
     }
 
-    ghost window_ruled = { λ _. refl };
-
-    ghost cap_ruled = { λ _. refl };
-
-    ghost judged_as_ruled = { λ _ s size t carried. refl };
+    fn decide(
+        &self,
+        status: Status,
+        lot_size: u32,
+        tally: Tally,
+        carried: Option<Tally>,
+    ) -> (Verdict, Option<Tally>) {
+        self.judge(status, lot_size, tally, carried)
+    }
 }

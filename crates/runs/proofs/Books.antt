@@ -148,6 +148,9 @@ module _ {C : Type 0} (r : Rules C) where
     each_on P [] ds a b = b
     each_on P (c ∷ cs) ds a b = (a.0, each_on P cs ds a.1 b)
 
+    reach_none : (st : Standing C) (es : List Entry) (n : ℕ) → Reaches st es n st es n
+    reach_none st es n = ([], tt, λ h. (refl, refl, refl))
+
     reach_both : {a b c : Standing C} {x y z : List Entry} {i j k : ℕ} → Reaches a x i b y j → Reaches b y j c z k → Reaches a x i c z k
     reach_both {a} {b} {c} {x} {y} {z} {i} {j} {k} p q = (
       p.0 ++ q.0,
@@ -187,7 +190,7 @@ module _ {C : Type 0} (r : Rules C) where
     handed k st es n sv sd true q d =
         reach_one (hand_in k) st es n sv (refuses_from score (hand_in k) st es n sd (ap (λ a. first ((not a, NoLotAwaits) ∷ []) None) (d refl)))
     handed k st es n sv sd false q d =
-        ([], tt, λ h. (sym (with_there false st q), refl, refl))
+        reach_as (reach_none st es n) (sym (with_there false st q)) refl refl
 
     module _ (shows : Shows r score) (st : Standing C) (es : List Entry) (n : ℕ) (e : Entry) (sd : st.unsound ≡ None) (sl : is_out st.waiting ≡ false) where
       abbrev Next : Type 0

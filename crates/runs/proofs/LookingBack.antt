@@ -1,5 +1,5 @@
--- Reading entries from the newest back gives what reading them forward gives; and how the reading of a front grows by its next entry.
-use Rattle.std.proofs.Common.{◌≡◌, ℕ, zero, suc, ◌+◌, ◌-◌, Bool, true, false, cond, List, [], ◌∷◌, ◌++◌, reverse, length, take, drop, Some, None, Option, sym, refl, ap, ◌∙◌, arith}
+-- Reading entries from the newest back gives what reading them forward gives; and the last articles of a list.
+use Rattle.std.proofs.Common.{◌≡◌, ℕ, zero, suc, ◌+◌, ◌-◌, ◌≤◌, Bool, true, false, cond, List, [], ◌∷◌, ◌++◌, reverse, length, take, drop, Some, None, Option, sym, refl, ap, ◌∙◌, arith}
 use mathlib.Core.List.{reverse-cons}
 use Rattle.std.proofs.lemmas.List.{length-append, length-drop, length-reverse, take-append-drop, reverse-append, reverse-reverse, drop_at, drop-append-le, drop_all}
 use Rattle.inspection.specs.declared.kind.Kind.{Kind}
@@ -88,7 +88,14 @@ read_back_as_forward es =
 pub last_none : (xs : List Article) → last_articles 0 xs ≡ []
 last_none xs = drop_all (length xs - 0) xs (omega arith)
 
+pub last_of_none : (n : ℕ) → last_articles n [] ≡ []
+last_of_none n = drop_all (0 - n) [] (omega arith)
+
 pub last_more : (m : ℕ) (xs : List Article) (a : Article) → last_articles (suc m) (xs ++ a ∷ []) ≡ last_articles m xs ++ a ∷ []
 last_more m xs a =
     let size : length (xs ++ a ∷ []) - suc m ≡ length xs - m = omega (arith, length-append xs (a ∷ [])) in
     ap (λ k. drop k (xs ++ a ∷ [])) size ∙ drop-append-le (length xs - m) xs (a ∷ []) (omega arith)
+
+-- all of them, where there are no more
+pub last_all : (n : ℕ) (xs : List Article) → length xs ≤ n → last_articles n xs ≡ xs
+last_all n xs le = let none : length xs - n ≡ 0 = omega arith in ap (λ k. drop k xs) none

@@ -1,4 +1,4 @@
--- The waiting lot with its slip moved: what stays, what a slip that is out or not makes of the calls, and that none is out where nothing waits.
+-- The waiting lot with its slip moved: what stays, and what a slip that is out or not makes of the calls.
 use Rattle.std.proofs.Common.{◌≡◌, ℕ, Bool, true, false, List, is_some, Some, None, Option, Result, sym, refl, ap}
 use Rattle.std.proofs.lemmas.Bool.{eq-eqb}
 use Rattle.inspection.specs.declared.refusal.Refusal.{Refusal}

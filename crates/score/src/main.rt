@@ -9,6 +9,9 @@ use worksheet::scoring::{Scored, read};
 // A portion's sample on normal inspection.
 const USUAL_UNITS: u32 = 25;
 
+// How many bytes are read at a time.
+const PART: usize = 65536;
+
 const USAGE: &str =
     "score takes one argument at most: the number of units in the sample, as in `score 25 < sheet`";
 
@@ -23,9 +26,23 @@ fn sample_units(rt: &HostRuntime) -> anyhow::Result<u32> {
     Ok(units)
 }
 
+// All of standard input, a large part at a time. `read_to_end` wants room beyond the last byte before it can tell that it was the last.
 fn read_input(rt: &HostRuntime) -> anyhow::Result<Vec<u8>> {
-    let mut input = Vec::new(rt.alloc());
-    rt.stdin().read_to_end(&mut input)?;
+    let heap = rt.alloc();
+    let mut input = Vec::new(heap);
+    let mut part = vec![in heap; 0u8; PART]?;
+    let mut stdin = rt.stdin();
+    for _ in 0..u64::MAX {
+        let n = stdin.read(&mut part)?;
+        if n == 0 {
+            break;
+        }
+        // Growing copies what is there, so it is done seldom.
+        if input.capacity() - input.len() < n {
+            input.reserve(input.len().max(n))?;
+        }
+        input.extend_from_slice(&part[..n])?;
+    }
     Ok(input)
 }
 

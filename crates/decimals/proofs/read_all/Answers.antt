@@ -9,7 +9,7 @@ returns-in_err-to_digit c = c.from_residual.ensures ∙ none_read _ c.loop-digit
 pub loop-digit-preserved : goal.loop-digit-preserved
 loop-digit-preserved c =
     let digit = rw c.from.ensures at c.in_ok-to_digit.ensures.value in
-    so_far_more _ _ _ _ _ _ c.loop-digit-test.true digit.0 digit.1 c.loop-digit.invariant c.saturating_mul.ensures c.saturating_add-number.ensures
+    so_far_more _ _ _ _ _ _ c.loop-digit-test.true digit.0 digit.1 c.loop-digit.invariant c.saturating_mul.ensures c.saturating_add-value.ensures
 
 pub returns : goal.returns
 returns c = whole_read _ _ _ c.loop-digit.invariant c.loop-digit-test.false
