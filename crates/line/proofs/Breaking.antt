@@ -5,8 +5,7 @@ use Rattle.std.proofs.lemmas.Bool.{leb-true, leb-false, le-leb, lt-leb, lt-ltb, 
 use Rattle.inspection.specs.declared.status.Status.{Status}
 use Rattle.inspection.specs.declared.status.Status.TheVariants.{Normal, Tightened, Reduced}
 use Rattle.runs.specs.History.{Article, verdicts}
-use Rattle.entries.specs.declared.entry.Entry.{Entry}
-use Rattle.runs.specs.Lines.{articles, last_articles}
+use Rattle.runs.specs.Lines.{last_articles}
 use Rattle.runs.specs.Spells.{rejections, last_of, breaks}
 use Rattle.line.specs.declared.seen.Seen.{Seen}
 use Rattle.line.specs.Seeing.{seen_of}
@@ -49,10 +48,7 @@ one_more k n = by (leb k n) refl
     by false t = let h : n < k = leb-false k n t in sym (le-ltb k (1 + n) (omega arith))
 
 -- the rule of each status, from what is seen of as many articles as it looks at
-module _ (window most_rejected s m : ℕ) (es : List Entry) (st : Status) (rejected : Bool) (x : Seen) (seen : x ≡ seen_of (last_articles m (articles es))) where
-  abbrev xs : List Article
-  xs = articles es
-
+module _ (window most_rejected s m : ℕ) (xs : List Article) (st : Status) (rejected : Bool) (x : Seen) (seen : x ≡ seen_of (last_articles m xs)) where
   rejected_of : (n : ℕ) → m ≡ min s n → x.rejected ≡ rejections (last_of n (verdicts (last_articles s xs)))
   rejected_of n e = ap (λ (y : Seen). y.rejected) seen ∙ ap rejections (sym (last_verdicts s n m xs e))
 

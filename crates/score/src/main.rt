@@ -37,9 +37,11 @@ fn read_input(rt: &HostRuntime) -> anyhow::Result<Vec<u8>> {
         if n == 0 {
             break;
         }
-        // Growing copies what is there, so it is done seldom.
-        if input.capacity() - input.len() < n {
-            input.reserve(input.len().max(n))?;
+        // Growing copies what is there, so it is done seldom; where so much room is not to be had, less may do.
+        if input.capacity() - input.len() < n
+            && input.reserve(input.len().saturating_mul(3).max(n)).is_err()
+        {
+            input.reserve(n)?;
         }
         input.extend_from_slice(&part[..n])?;
     }
